@@ -1,0 +1,75 @@
+-- Laws that belong to no one function: tests, and tests over lists at each index. Assumes nothing.
+use mathlib.Core.Path.{_≡_, refl, ap, sym, _∙_, subst}
+use mathlib.Core.Bool.{Bool, true, false, _&&_, _||_, not}
+use mathlib.Core.List.{List, [], _∷_, _++_}
+use Prim.Native.Nat.{ℕ, zero, suc, _+_, _-_, _≤_, _<_, min}
+use native.Mathlib.Nat.{add-zero, zero-add, add-suc, suc-add, le-of-suc-le-suc, not-suc-le-zero}
+use native.Mathlib.Omega.{arith}
+use lib.ListN.{length, getD, take, drop, length-take, length-drop}
+use lib.Seq.{getD-take, getD-drop}
+use Rattle.terms.specs.Lists.{all, each, part}
+
+pub case : {A : Type 0} {C : Type 0} → (A → C) → ((A → ⊥) → C) → Dec A → C
+case f g (yes a) = f a
+case f g (no h) = g h
+
+pub bool-iff : (a b : Bool) → (a ≡ true → b ≡ true) → (b ≡ true → a ≡ true) → a ≡ b
+bool-iff true b f g = sym (f refl)
+bool-iff false true f g = g refl
+bool-iff false false f g = refl
+
+pub and-left : (a b : Bool) → (a && b) ≡ true → a ≡ true
+and-left true b h = refl
+and-left false b h = h
+
+pub and-right : (a b : Bool) → (a && b) ≡ true → b ≡ true
+and-right true b h = h
+and-right false true h = refl
+and-right false false h = h
+
+pub and-both : (a b : Bool) → a ≡ true → b ≡ true → (a && b) ≡ true
+and-both a b p q = rw (p, q)
+
+-- a test at each place.
+pub each-at : (p : ℕ → ℕ → Bool) (l : List ℕ) (i : ℕ) → each p i l ≡ true → (k : ℕ) → k < length l → p (i + k) (getD l k 0) ≡ true
+each-at p [] i t k h = absurd (not-suc-le-zero h)
+each-at p (x ∷ xs) i t zero h = rw add-zero (and-left (p i x) (each p (suc i) xs) t)
+each-at p (x ∷ xs) i t (suc k) h =
+    subst (λ (m : ℕ). p m (getD xs k 0) ≡ true) (suc-add i k ∙ sym (add-suc i k))
+    (each-at p xs (suc i) (and-right (p i x) (each p (suc i) xs) t) k (le-of-suc-le-suc h))
+
+pub each-of : (p : ℕ → ℕ → Bool) (l : List ℕ) (i : ℕ) → ((k : ℕ) → k < length l → p (i + k) (getD l k 0) ≡ true) → each p i l ≡ true
+each-of p [] i f = refl
+each-of p (x ∷ xs) i f =
+    and-both (p i x) (each p (suc i) xs)
+    (rw add-zero at (f 0 (omega arith)))
+    (each-of p xs (suc i) (λ k h. subst (λ (m : ℕ). p m (getD xs k 0) ≡ true) (add-suc i k ∙ sym (suc-add i k)) (f (suc k) (omega arith))))
+
+pub all-at : (p : ℕ → Bool) (l : List ℕ) → all p l ≡ true → (k : ℕ) → k < length l → p (getD l k 0) ≡ true
+all-at p [] t k h = absurd (not-suc-le-zero h)
+all-at p (x ∷ xs) t zero h = and-left (p x) (all p xs) t
+all-at p (x ∷ xs) t (suc k) h = all-at p xs (and-right (p x) (all p xs) t) k (le-of-suc-le-suc h)
+
+pub all-of : (p : ℕ → Bool) (l : List ℕ) → ((k : ℕ) → k < length l → p (getD l k 0) ≡ true) → all p l ≡ true
+all-of p [] f = refl
+all-of p (x ∷ xs) f =
+    and-both (p x) (all p xs) (f 0 (omega arith)) (all-of p xs (λ k h. f (suc k) (omega arith)))
+
+-- the same of a part
+module _ (p : ℕ → Bool) (l : List ℕ) (a b : ℕ) where
+  pub part-at : all p (part l a b) ≡ true → (k : ℕ) → a ≤ k → k < b → k < length l → p (getD l k 0) ≡ true
+  part-at t k lo hi inl =
+      let e : a + (k - a) ≡ k = omega arith in
+      let j : k - a < length (part l a b) = simp (length-take, length-drop) (omega arith) in
+      let g : getD (part l a b) (k - a) 0 ≡ getD l k 0 =
+      getD-take (b - a) (drop a l) (k - a) 0 (omega arith) ∙ getD-drop a l (k - a) 0 ∙ ap (λ (m : ℕ). getD l m 0) e in
+      subst (λ (m : ℕ). p m ≡ true) g (all-at p (part l a b) t (k - a) j)
+
+  pub part-of : ((k : ℕ) → a ≤ k → k < b → k < length l → p (getD l k 0) ≡ true) → all p (part l a b) ≡ true
+  part-of f =
+      all-of p (part l a b)
+      (λ k h.
+      let h' : k < min (b - a) (length l - a) = simp (length-take, length-drop) at h in
+      let g : getD (part l a b) k 0 ≡ getD l (a + k) 0 =
+      getD-take (b - a) (drop a l) k 0 (omega arith) ∙ getD-drop a l k 0 in
+      subst (λ (m : ℕ). p m ≡ true) (sym g) (f (a + k) (omega arith) (omega arith) (omega arith)))
