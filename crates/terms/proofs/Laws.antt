@@ -7,11 +7,22 @@ use native.Mathlib.Nat.{add-zero, zero-add, add-suc, suc-add, le-of-suc-le-suc, 
 use native.Mathlib.Omega.{arith}
 use lib.ListN.{length, getD, take, drop, length-take, length-drop}
 use lib.Seq.{getD-take, getD-drop}
+use Rattle.terms.specs.Ladder.{_when_else_}
 use Rattle.terms.specs.Lists.{all, each, part}
 
 pub case : {A : Type 0} {C : Type 0} → (A → C) → ((A → ⊥) → C) → Dec A → C
 case f g (yes a) = f a
 case f g (no h) = g h
+
+-- what holds at a rung and below it holds of the ladder
+pub rung : {A : Type 0} (P : A → Type 0) {x y : A} (t : Bool) → (t ≡ true → P x) → (t ≡ false → P y) → P (x when t else y)
+rung P true f g = f refl
+rung P false f g = g refl
+
+-- a ladder that does not end at a rung has passed it
+pub rung-passed : {A : Type 0} {x y z : A} (t : Bool) → (x ≡ z → ⊥) → (x when t else y) ≡ z → (t ≡ false) × (y ≡ z)
+rung-passed true n e = absurd (n e)
+rung-passed false n e = (refl, e)
 
 pub bool-iff : (a b : Bool) → (a ≡ true → b ≡ true) → (b ≡ true → a ≡ true) → a ≡ b
 bool-iff true b f g = sym (f refl)

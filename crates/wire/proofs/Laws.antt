@@ -20,6 +20,9 @@ number-next : (k at i : ℕ) (s : List ℕ) → at + i + suc k ≤ length s
     → numberAt (suc k) (at + i) s ≡ getD s (at + i) 0 * 256 ^ k + numberAt k (at + suc i) s
 number-next k at i s h = let e : at + i + 1 ≡ at + suc i = omega arith in rw (← e) (number-step k (at + i) s h)
 
+pub number1 : (at : ℕ) (s : List ℕ) → at + 1 ≤ length s → getD s at 0 ≡ numberAt 1 at s
+number1 at s h = omega (arith, number-step 0 at s h)
+
 pub number2 : (at : ℕ) (s : List ℕ) → at + 2 ≤ length s → getD s at 0 * 256 + getD s (at + 1) 0 ≡ numberAt 2 at s
 number2 at s h = omega (arith, number-step 1 at s h, number-next 0 at 1 s (omega arith))
 

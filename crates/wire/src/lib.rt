@@ -18,6 +18,14 @@ fn wide32(x: u8) -> u32
     x as u32
 }
 
+// The byte at at as a number.
+pub fn be8(s: &[u8], at: usize) -> u8
+    requires { ⌜ at + 1 ≤ length (now s) ⌝ }
+    ensures { λ r. ⌜ r ≡ numberAt 1 at (now (s .entry)) ⌝ }
+{
+    s[at]
+}
+
 // The two bytes from at as a number.
 pub fn be16(s: &[u8], at: usize) -> u16
     requires { ⌜ at + 2 ≤ length (now s) ⌝ }

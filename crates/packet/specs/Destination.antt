@@ -1,0 +1,33 @@
+-- A destination: 384 key bytes, certificate type (1), length L (2), L bytes.
+-- This edition takes only type 5 with L at least 4 and first two certificate bytes equal to 7.
+use Prim.Native.Nat.{ℕ, _+_}
+use mathlib.Core.Bool.{not}
+use mathlib.Core.List.{List}
+use lib.Dec.{ltb, eqb}
+use Rattle.terms.specs.Ladder.{_when_else_}
+use Rattle.terms.specs.declared.Refusal.the-variants.{OptionCut, DestinationForm}
+use Rattle.wire.specs.BigEndian.{numberAt}
+use Rattle.packet.specs.declared.DestinationFound.{DestinationFound}
+use Rattle.packet.specs.declared.DestinationFound.the-variants.{Whole, Refused}
+
+module _ (bytes : List ℕ) (at end : ℕ) where
+  abbrev pub certificateType : ℕ
+  certificateType = numberAt 1 (at + 384) bytes
+
+  -- the L of document 01
+  abbrev pub certificateLength : ℕ
+  certificateLength = numberAt 2 (at + 385) bytes
+
+  -- the first two certificate bytes
+  abbrev pub keyType : ℕ
+  keyType = numberAt 2 (at + 387) bytes
+
+  -- the destination that begins at `at`, in an area that ends at `end`: its length, or the refusal
+  unfoldable pub destinationIn : DestinationFound
+  destinationIn =
+      Refused OptionCut when ltb end (at + 387) else
+      Refused DestinationForm when not (eqb certificateType 5) else
+      Refused DestinationForm when ltb certificateLength 4 else
+      Refused OptionCut when ltb end (at + (387 + certificateLength)) else
+      Refused DestinationForm when not (eqb keyType 7) else
+      Whole (387 + certificateLength)

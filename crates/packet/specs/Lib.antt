@@ -1,0 +1,4 @@
+pub mod Flags
+pub mod Destination
+pub mod Options
+pub mod Reading
