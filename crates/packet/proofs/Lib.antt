@@ -2,3 +2,4 @@
 pub mod Form
 pub mod Laws
 pub mod Ways
+pub mod Determined

@@ -1,0 +1,40 @@
+-- Each promise of `packet` allows one result only. Assumes nothing.
+use Prim.Native.Nat.{ℕ}
+use mathlib.Core.Path.{_≡_, refl, sym, _∙_, ap}
+use mathlib.Core.List.{List}
+use native.Mathlib.Omega.{arith}
+use Rattle.terms.specs.Refusals.{numberOf}
+use Rattle.terms.proofs.Numbers.{number-one, number-some}
+use Rattle.terms.proofs.Determined.{determined}
+use Rattle.packet.specs.Reading.{Said, said, readOf, nacksOf, destinationOf, signatureOf, payloadOf}
+use Rattle.packet.specs.declared.Packet.{Packet}
+use Rattle.packet.specs.declared.Reading.{Reading}
+use Rattle.packet.specs.declared.Reading.the-variants as R
+
+abbrev refusal-of : Said → ℕ
+refusal-of s = s .refusal
+
+abbrev values-of : Said → Packet
+values-of s = s .values
+
+-- two answers that say the same are the same
+pub said-one : (a b : Reading) → said a ≡ said b → a ≡ b
+said-one (R.Refused q) (R.Refused r) e = ap R.Refused (number-one q r (ap refusal-of e))
+said-one (R.Refused q) (R.Read p) e = absurd (omega (arith, number-some q, ap refusal-of e))
+said-one (R.Read p) (R.Refused r) e = absurd (omega (arith, number-some r, ap refusal-of e))
+said-one (R.Read p) (R.Read q) e = ap R.Read (ap values-of e)
+
+pub read-determined : (packet : List ℕ) (a b : Reading) → said a ≡ readOf packet → said b ≡ readOf packet → a ≡ b
+read-determined packet a b p q = said-one a b (determined p q)
+
+pub nacks-determined : (packet a b : List ℕ) → a ≡ nacksOf packet → b ≡ nacksOf packet → a ≡ b
+nacks-determined packet a b p q = determined p q
+
+pub destination-determined : (packet a b : List ℕ) → a ≡ destinationOf packet → b ≡ destinationOf packet → a ≡ b
+destination-determined packet a b p q = determined p q
+
+pub signature-determined : (packet a b : List ℕ) → a ≡ signatureOf packet → b ≡ signatureOf packet → a ≡ b
+signature-determined packet a b p q = determined p q
+
+pub payload-determined : (packet a b : List ℕ) → a ≡ payloadOf packet → b ≡ payloadOf packet → a ≡ b
+payload-determined packet a b p q = determined p q
