@@ -123,6 +123,32 @@ pub enum Verdict {
     Unlisted(String),
 }
 
+impl Verdict {
+    /// Of an answer that must be `expected`, be it by equality of the two sides or by a listed difference.
+    pub fn of(ours: &Answer, expected: &Answer, listed: Option<&'static str>) -> Self {
+        match (ours == expected, listed) {
+            (true, None) => Self::Equal,
+            (true, Some(name)) => Self::Listed(name),
+            (false, _) => Self::Unlisted(format!("expected `{expected}`, ours `{ours}`")),
+        }
+    }
+}
+
+/// A case of a topic: calls for our program, and how its answers compare with the Rust's.
+pub trait Case: Sized {
+    /// The differences that are listed for this topic.
+    const LISTED: &'static [&'static str];
+
+    /// The case of this index: first those at the limits, which do not depend on the seed, then random ones.
+    fn make(seed: u64, index: usize) -> Self;
+    fn script(&self) -> Vec<u8>;
+    /// How many answer lines it has.
+    fn answers(&self) -> usize {
+        1
+    }
+    fn compare(&self, ours: &[Answer]) -> Vec<Verdict>;
+}
+
 /// Counts verdicts. Each listed difference must occur at least once, so that the list cannot outlive its cause.
 pub struct Tally {
     title: String,

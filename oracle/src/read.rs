@@ -2,7 +2,7 @@
 //!
 //! Script: 'r', packet bytes. Answer: `read CODE`, or `read 0` and 21 numbers (see `fields`).
 use crate::{
-    common::{checksum, Answer, Random, Script, Verdict},
+    common::{self, checksum, Answer, Random, Script, Verdict},
     packet::{Packet, Part},
     runtime::Bench,
     samples::{self, Sample},
@@ -12,14 +12,35 @@ use std::sync::OnceLock;
 const LONG: &str = "longer than 65,535";
 const BARE_SIGNATURE: &str = "signature without destination";
 const OFFLINE: &str = "offline block (stand-in)";
-pub const LISTED: [&str; 3] = [LONG, BARE_SIGNATURE, OFFLINE];
 
-/// The case's packet: at the limits first, then at random.
-pub fn case(seed: u64, index: usize) -> Vec<u8> {
-    static LIMITS: OnceLock<Vec<Vec<u8>>> = OnceLock::new();
-    match LIMITS.get_or_init(samples::limits).get(index) {
-        Some(packet) => packet.clone(),
-        None => random(&mut Random::of(seed, index)),
+pub struct Case(Vec<u8>);
+
+impl common::Case for Case {
+    const LISTED: &'static [&'static str] = &[LONG, BARE_SIGNATURE, OFFLINE];
+
+    fn make(seed: u64, index: usize) -> Self {
+        static LIMITS: OnceLock<Vec<Vec<u8>>> = OnceLock::new();
+        Self(match LIMITS.get_or_init(samples::limits).get(index) {
+            Some(packet) => packet.clone(),
+            None => random(&mut Random::of(seed, index)),
+        })
+    }
+
+    fn script(&self) -> Vec<u8> {
+        Script::default().u8(b'r').bytes(&self.0).0
+    }
+
+    fn compare(&self, ours: &[Answer]) -> Vec<Verdict> {
+        let packet = &self.0[..];
+        let (expected, listed) = match Packet::parse::<Bench>(packet) {
+            _ if packet.len() > 65_535 => (vec![2], Some(LONG)),
+            Err(error) => (vec![error.number()], (error.number() == 6).then_some(OFFLINE)),
+            Ok(read) => {
+                let (signature, listed) = signature(&read, packet);
+                (fields(&read, packet, signature), listed)
+            }
+        };
+        vec![Verdict::of(&ours[0], &Answer::new("read", &expected), listed)]
     }
 }
 
@@ -45,28 +66,6 @@ fn framed_noise(random: &mut Random) -> Vec<u8> {
     let length = random.below(600);
     sample.options = random.bytes(length);
     sample.packet()
-}
-
-pub fn script(packet: &[u8]) -> Vec<u8> {
-    Script::default().u8(b'r').bytes(packet).0
-}
-
-pub fn compare(packet: &[u8], ours: &Answer) -> Verdict {
-    let rust = Packet::parse::<Bench>(packet);
-    let (expected, listed) = match &rust {
-        _ if packet.len() > 65_535 => (vec![2], Some(LONG)),
-        Err(error) => (vec![error.number()], (error.number() == 6).then_some(OFFLINE)),
-        Ok(read) => {
-            let (signature, listed) = signature(read, packet);
-            (fields(read, packet, signature), listed)
-        }
-    };
-    let expected = Answer::new("read", &expected);
-    match (*ours == expected, listed) {
-        (true, None) => Verdict::Equal,
-        (true, Some(name)) => Verdict::Listed(name),
-        (false, _) => Verdict::Unlisted(format!("expected `{expected}`, ours `{ours}`")),
-    }
 }
 
 /// What the Rust found, in the order of the answer line.

@@ -4,7 +4,7 @@
 //! (8), flags, delay (16), destination bytes, maximum size (16), signature bytes, payload bytes, the output's length (32)
 //! and the byte that fills it before the call. Answer: `write CODE LENGTH SIG_AT SUM`, the sum over the whole output.
 use crate::{
-    common::{checksum, Answer, Random, Script, Verdict},
+    common::{self, checksum, Answer, Random, Script, Verdict},
     crypto::SigningPrivateKey,
     packet::PacketBuilder,
     primitives::{Destination, DestinationId},
@@ -15,7 +15,6 @@ use std::sync::OnceLock;
 const NACKS: &str = "more than 255 NACKs";
 const LONG: &str = "longer than 65,535";
 const OUTPUT: &str = "output too short";
-pub const LISTED: [&str; 3] = [NACKS, LONG, OUTPUT];
 
 const SIGNATURE: u16 = 1 << 3;
 const FROM: u16 = 1 << 5;
@@ -44,12 +43,63 @@ pub struct Case {
     fill: u8,
 }
 
-/// The case's call: at the limits first, then at random.
-pub fn case(seed: u64, index: usize) -> Case {
-    static LIMITS: OnceLock<Vec<Case>> = OnceLock::new();
-    match LIMITS.get_or_init(limits).get(index) {
-        Some(case) => case.clone(),
-        None => any(&mut Random::of(seed, index)),
+impl common::Case for Case {
+    const LISTED: &'static [&'static str] = &[NACKS, LONG, OUTPUT];
+
+    fn make(seed: u64, index: usize) -> Self {
+        static LIMITS: OnceLock<Vec<Case>> = OnceLock::new();
+        match LIMITS.get_or_init(limits).get(index) {
+            Some(case) => case.clone(),
+            None => any(&mut Random::of(seed, index)),
+        }
+    }
+
+    fn script(&self) -> Vec<u8> {
+        let mut script = Script::default()
+            .u8(b'w')
+            .u32(self.send_stream_id)
+            .u32(self.recv_stream_id)
+            .u32(self.seq_nro)
+            .u32(self.ack_through)
+            .u16(self.nacks.len() as u16);
+        for nack in &self.nacks {
+            script = script.u32(*nack);
+        }
+        script
+            .u8(self.resend_delay)
+            .u16(self.flags)
+            .u16(self.delay)
+            .bytes(&self.destination)
+            .u16(self.max_size)
+            .bytes(&self.signature)
+            .bytes(&self.payload)
+            .u32(self.output as u32)
+            .u8(self.fill)
+            .0
+    }
+
+    fn compare(&self, ours: &[Answer]) -> Vec<Verdict> {
+        let rust = self.built(&self.signature);
+        let mut output = vec![self.fill; self.output];
+        // The Rust makes its own output and cuts its counts to their width; where it does, ours refuses and writes nothing.
+        let refusal = if self.nacks.len() > 255 {
+            Some((8, NACKS))
+        } else if rust.len() > 65_535 {
+            Some((2, LONG))
+        } else if rust.len() > output.len() {
+            Some((7, OUTPUT))
+        } else {
+            None
+        };
+        let head = match refusal {
+            Some((number, _)) => [number, 0, 0],
+            None => {
+                output[..rust.len()].copy_from_slice(&rust);
+                [0, rust.len() as u64, self.signature_at() as u64]
+            }
+        };
+        let expected = Answer::new("write", &[head[0], head[1], head[2], checksum(&output)]);
+        vec![Verdict::of(&ours[0], &expected, refusal.map(|(_, name)| name))]
     }
 }
 
@@ -187,57 +237,5 @@ impl Case {
         let differ: Vec<_> = (0..zeros.len()).filter(|at| zeros[*at] != ones[*at]).collect();
         assert!(differ.is_empty() || differ.len() == 64 && differ[0] + 63 == differ[63], "64 bytes on end");
         differ.first().copied().unwrap_or(0)
-    }
-}
-
-pub fn script(case: &Case) -> Vec<u8> {
-    let mut script = Script::default()
-        .u8(b'w')
-        .u32(case.send_stream_id)
-        .u32(case.recv_stream_id)
-        .u32(case.seq_nro)
-        .u32(case.ack_through)
-        .u16(case.nacks.len() as u16);
-    for nack in &case.nacks {
-        script = script.u32(*nack);
-    }
-    script
-        .u8(case.resend_delay)
-        .u16(case.flags)
-        .u16(case.delay)
-        .bytes(&case.destination)
-        .u16(case.max_size)
-        .bytes(&case.signature)
-        .bytes(&case.payload)
-        .u32(case.output as u32)
-        .u8(case.fill)
-        .0
-}
-
-pub fn compare(case: &Case, ours: &Answer) -> Verdict {
-    let rust = case.built(&case.signature);
-    let mut output = vec![case.fill; case.output];
-    // The Rust makes its own output and cuts its counts to their width; where it does, ours refuses and writes nothing.
-    let refusal = if case.nacks.len() > 255 {
-        Some((8, NACKS))
-    } else if rust.len() > 65_535 {
-        Some((2, LONG))
-    } else if rust.len() > output.len() {
-        Some((7, OUTPUT))
-    } else {
-        None
-    };
-    let head = match refusal {
-        Some((number, _)) => [number, 0, 0],
-        None => {
-            output[..rust.len()].copy_from_slice(&rust);
-            [0, rust.len() as u64, case.signature_at() as u64]
-        }
-    };
-    let expected = Answer::new("write", &[head[0], head[1], head[2], checksum(&output)]);
-    match (*ours == expected, refusal) {
-        (true, None) => Verdict::Equal,
-        (true, Some((_, name))) => Verdict::Listed(name),
-        (false, _) => Verdict::Unlisted(format!("expected `{expected}`, ours `{ours}`")),
     }
 }

@@ -1,0 +1,216 @@
+//! `InboundContext::handle_packet` and `pop_message`, through whole sequences of calls inside document 01's domain: no
+//! repeats, nonempty payloads, at most 255 missing, a span below 512 from the next number to take.
+//!
+//! Script: 'S' start after s (32 bits), slot size, store length (32), the byte that fills it; 'a' accept: number (32),
+//! payload bytes; 't' take: output length (32), the byte that fills it. Answers: `start CODE NEXT HIGHEST`, `accept CODE
+//! NEXT HIGHEST MISSING STORE_SUM`, `take CODE LENGTH NEXT HIGHEST MISSING OUT_SUM`. The Rust has no store, so STORE_SUM is
+//! not compared.
+use crate::{
+    active::Inbound,
+    common::{checksum, Answer, Case, Random, Script, Verdict},
+};
+use std::collections::BTreeMap;
+
+const OUTPUT: &str = "output too short";
+/// The last number that can be used.
+const LAST: u64 = 4_294_967_294;
+
+pub enum Call {
+    Start { s: u32, slot: usize, fill: u8 },
+    Accept { number: u32, payload: Vec<u8> },
+    Take { output: usize, fill: u8 },
+}
+
+impl Call {
+    pub fn script(&self) -> Vec<u8> {
+        let script = Script::default();
+        match self {
+            Self::Start { s, slot, fill } => {
+                script.u8(b'S').u32(*s).u32(*slot as u32).u32(512 * *slot as u32).u8(*fill)
+            }
+            Self::Accept { number, payload } => script.u8(b'a').u32(*number).bytes(payload),
+            Self::Take { output, fill } => script.u8(b't').u32(*output as u32).u8(*fill),
+        }
+        .0
+    }
+}
+
+pub struct Sequence(Vec<Call>);
+
+impl Case for Sequence {
+    const LISTED: &'static [&'static str] = &[OUTPUT];
+
+    fn make(seed: u64, index: usize) -> Self {
+        Draft::sequence(&mut Random::of(seed, index))
+    }
+
+    fn script(&self) -> Vec<u8> {
+        self.0.iter().flat_map(Call::script).collect()
+    }
+
+    fn answers(&self) -> usize {
+        self.0.len()
+    }
+
+    fn compare(&self, ours: &[Answer]) -> Vec<Verdict> {
+        let mut rust = Rust { inbound: Inbound::start(0), next: 1 };
+        let mut verdicts = vec![];
+        for (at, (call, ours)) in self.0.iter().zip(ours).enumerate() {
+            let (expected, listed) = rust.answer(call);
+            let same = ours.word == expected.word
+                && match call {
+                    Call::Accept { .. } => ours.numbers.len() == 5 && ours.numbers[..4] == expected.numbers[..],
+                    _ => ours.numbers == expected.numbers,
+                };
+            verdicts.push(match (same, listed) {
+                (true, None) => Verdict::Equal,
+                (true, Some(name)) => Verdict::Listed(name),
+                (false, _) => Verdict::Unlisted(format!("call {at}: expected `{expected}`, ours `{ours}`")),
+            });
+            // After a difference the two are no longer in the same state.
+            if !same {
+                break;
+            }
+        }
+        verdicts
+    }
+}
+
+/// The Rust's receiver, with the next number to take, which it does not know: each nonempty payload is one number.
+struct Rust {
+    inbound: Inbound,
+    next: u64,
+}
+
+impl Rust {
+    fn answer(&mut self, call: &Call) -> (Answer, Option<&'static str>) {
+        match call {
+            Call::Start { s, .. } => {
+                *self = Self { inbound: Inbound::start(*s), next: u64::from(*s) + 1 };
+                (Answer::new("start", &[0, self.next, u64::from(self.inbound.highest())]), None)
+            }
+            Call::Accept { number, payload } => {
+                let code = match self.inbound.accept(*number, payload) {
+                    Ok(()) => 0,
+                    Err(_) => 14,
+                };
+                (Answer::new("accept", &[&[code], &self.state()[..]].concat()), None)
+            }
+            Call::Take { output, fill } => {
+                let mut output = vec![*fill; *output];
+                // The Rust hands out a buffer of its own, so an output that is too short is ours alone: the payload stays.
+                let (code, length, listed) = match self.inbound.next() {
+                    None => (17, 0, None),
+                    Some(payload) if payload.len() > output.len() => (7, 0, Some(OUTPUT)),
+                    Some(_) => {
+                        let payload = self.inbound.take().expect("it was there");
+                        output[..payload.len()].copy_from_slice(&payload);
+                        self.next += 1;
+                        (0, payload.len() as u64, None)
+                    }
+                };
+                let numbers = [&[code, length], &self.state()[..], &[checksum(&output)]].concat();
+                (Answer::new("take", &numbers), listed)
+            }
+        }
+    }
+
+    fn state(&self) -> [u64; 3] {
+        [self.next, self.inbound.highest().into(), self.inbound.missing() as u64]
+    }
+}
+
+/// A sequence as it is drawn, with as much of the receiver's state as keeps it inside the domain.
+struct Draft {
+    calls: Vec<Call>,
+    slot: usize,
+    next: u64,
+    highest: u64,
+    /// The length of each payload that is not taken yet.
+    held: BTreeMap<u64, usize>,
+}
+
+impl Draft {
+    fn sequence(random: &mut Random) -> Sequence {
+        let s = match random.below(8) {
+            0 => LAST - random.below(40) as u64,
+            1 => LAST - random.below(700) as u64,
+            2 | 3 => 0,
+            _ => u64::from(random.word()).min(LAST),
+        };
+        // Our program sums the whole store after each accept, so large slots are rare.
+        let slot = match random.below(400) {
+            0 => random.from_to(1, 1812),
+            1..=9 => random.from_to(1, 40),
+            _ => random.from_to(1, 3),
+        };
+        let start = Call::Start { s: s as u32, slot, fill: random.byte() };
+        let mut draft = Self { calls: vec![start], slot, next: s + 1, highest: s, held: BTreeMap::new() };
+        let calls = if random.one_in(100) { random.from_to(300, 900) } else { random.from_to(1, 40) };
+        // Some sequences are mostly in order, some mostly gaps, some seldom taken from.
+        let [jumps, fills, takes] = [random.from_to(1, 12), random.from_to(1, 12), random.from_to(1, 12)];
+        for _ in 0..calls {
+            match random.below(8 + jumps + fills + takes) {
+                roll if roll < takes => draft.take(random),
+                roll if roll < takes + fills => draft.fill(random),
+                roll if roll < takes + fills + jumps => draft.jump(random),
+                _ => draft.accept(random, draft.highest + 1),
+            }
+        }
+        if random.one_in(2) {
+            while draft.held.contains_key(&draft.next) {
+                draft.take(random);
+            }
+        }
+        Sequence(draft.calls)
+    }
+
+    fn missing(&self) -> Vec<u64> {
+        (self.next..=self.highest).filter(|number| !self.held.contains_key(number)).collect()
+    }
+
+    fn accept(&mut self, random: &mut Random, number: u64) {
+        if number > LAST || number - self.next >= 512 {
+            return;
+        }
+        let length = if random.one_in(2) { self.slot } else { random.from_to(1, self.slot) };
+        self.calls.push(Call::Accept { number: number as u32, payload: random.bytes(length) });
+        self.held.insert(number, length);
+        self.highest = self.highest.max(number);
+    }
+
+    /// Fills a gap: at its start, at its end, or anywhere.
+    fn fill(&mut self, random: &mut Random) {
+        let missing = self.missing();
+        if let Some(last) = missing.len().checked_sub(1) {
+            let rank = [0, last, random.below(missing.len())][random.below(3)];
+            self.accept(random, missing[rank]);
+        }
+    }
+
+    /// Leaves a gap, of a few numbers or as many as the domain has room for.
+    fn jump(&mut self, random: &mut Random) {
+        let most = (255 - self.missing().len() as u64).min((self.next + 510).saturating_sub(self.highest));
+        let gap = match random.below(16) {
+            0 => most,
+            1 => random.below(most as usize + 1) as u64,
+            _ => most.min(random.from_to(1, 4) as u64),
+        };
+        self.accept(random, self.highest + 1 + gap);
+    }
+
+    fn take(&mut self, random: &mut Random) {
+        let held = self.held.get(&self.next).copied();
+        let needed = held.unwrap_or(0);
+        let output = match random.below(8) {
+            0 => random.below(needed + 1),
+            1..=3 => needed,
+            _ => needed + random.below(4),
+        };
+        self.calls.push(Call::Take { output, fill: random.byte() });
+        if held.is_some_and(|length| length <= output) {
+            self.held.remove(&self.next);
+            self.next += 1;
+        }
+    }
+}
