@@ -5,8 +5,10 @@ mod common;
 mod read;
 mod receive;
 mod samples;
+mod show;
 mod slips;
 mod stand_in;
+mod timer;
 mod write;
 // The given text looks for these at the root of its crate.
 use stand_in::{crypto, destination, error, primitives, runtime, sam};
@@ -29,12 +31,17 @@ fn main() -> ExitCode {
     let passed = match words[..] {
         ["receive", "slips", "gen"] => stdout().write_all(&slips::script()).is_ok(),
         ["receive", "slips", "check"] => slips::check(),
+        ["stream", "show"] => {
+            show::show();
+            true
+        }
         [topic, action @ ("gen" | "check"), seed, count] => {
             let (Ok(seed), Ok(count)) = (seed.parse(), count.parse()) else { return usage() };
             match topic {
                 "read" => run::<read::Case>(topic, action, seed, count),
                 "write" => run::<write::Case>(topic, action, seed, count),
                 "receive" => run::<receive::Sequence>(topic, action, seed, count),
+                "timer" => run::<timer::Case>(topic, action, seed, count),
                 _ => return usage(),
             }
         }
@@ -48,7 +55,7 @@ fn main() -> ExitCode {
 }
 
 fn usage() -> ExitCode {
-    eprintln!("usage: oracle read|write|receive gen|check SEED COUNT\n       oracle receive slips gen|check");
+    eprintln!("usage: oracle read|write|receive|timer gen|check SEED COUNT\n       oracle receive slips gen|check\n       oracle stream show");
     ExitCode::from(2)
 }
 

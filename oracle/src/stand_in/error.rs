@@ -5,6 +5,7 @@
 pub enum StreamingError {
     Closed,
     SequenceNumberTooHigh,
+    #[allow(dead_code)] // for a reader of the log
     Malformed(parser::PacketParseError),
 }
 
