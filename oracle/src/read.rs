@@ -1,6 +1,8 @@
 //! `Packet::parse` on any bytes.
 //!
-//! Script: 'r', packet bytes. Answer: `read CODE`, or `read 0` and 21 numbers (see `fields`).
+//! Script: 'r', packet bytes. Answer: `read CODE` if refused, else `read 0 SEND RECV SEQ ACK RESEND FLAGS DELAY MAX NACKS_AT
+//! NACKS_LEN DEST_AT DEST_LEN SIG_AT SIG_LEN PAYLOAD_AT PAYLOAD_LEN LEFTOVER NACKS_SUM DEST_SUM SIG_SUM PAYLOAD_SUM`: lengths in
+//! bytes, an absent part empty and where it would have stood in wire order, the sums over the parts' bytes.
 use crate::{
     common::{self, checksum, Answer, Random, Script, Verdict},
     packet::{Packet, Part},

@@ -24,10 +24,12 @@ impl common::Case for Case {
     const LISTED: &'static [&'static str] = &[LOW, HIGH, FIRST, ROUNDED];
 
     fn make(seed: u64, index: usize) -> Self {
-        let windows = (1..=128).map(Self::Grown).chain((1..=128).map(Self::Fallen));
-        match windows.chain(SMALLEST).nth(index.min(300)) {
-            Some(case) => case,
-            None => any(&mut Random::of(seed, index)),
+        // Every window first.
+        match index {
+            0..=127 => Self::Grown(index as u32 + 1),
+            128..=255 => Self::Fallen(index as u32 - 127),
+            256..=259 => SMALLEST[index - 256],
+            _ => any(&mut Random::of(seed, index)),
         }
     }
 
