@@ -1,11 +1,13 @@
 -- Each promise of `packet` allows one result only. Assumes nothing.
 use Prim.Native.Nat.{ℕ}
 use mathlib.Core.Path.{_≡_, refl, sym, _∙_, ap}
+use mathlib.Core.Bool.{Bool}
 use mathlib.Core.List.{List}
 use native.Mathlib.Omega.{arith}
 use Rattle.terms.specs.Refusals.{numberOf}
 use Rattle.terms.proofs.Numbers.{number-one, number-some}
 use Rattle.terms.proofs.Determined.{determined}
+use Rattle.packet.specs.Destination.{isDestination}
 use Rattle.packet.specs.Reading.{Said, said, readOf, nacksOf, destinationOf, signatureOf, payloadOf}
 use Rattle.packet.specs.declared.Packet.{Packet}
 use Rattle.packet.specs.declared.Reading.{Reading}
@@ -26,6 +28,9 @@ said-one (R.Read p) (R.Read q) e = ap R.Read (ap values-of e)
 
 pub read-determined : (packet : List ℕ) (a b : Reading) → said a ≡ readOf packet → said b ≡ readOf packet → a ≡ b
 read-determined packet a b p q = said-one a b (determined p q)
+
+pub is-destination-determined : (bytes : List ℕ) (a b : Bool) → a ≡ isDestination bytes → b ≡ isDestination bytes → a ≡ b
+is-destination-determined bytes a b p q = determined p q
 
 pub nacks-determined : (packet a b : List ℕ) → a ≡ nacksOf packet → b ≡ nacksOf packet → a ≡ b
 nacks-determined packet a b p q = determined p q

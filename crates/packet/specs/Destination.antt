@@ -1,9 +1,10 @@
 -- A destination: 384 key bytes, certificate type (1), length L (2), L bytes.
 -- This edition takes only type 5 with L at least 4 and first two certificate bytes equal to 7.
 use Prim.Native.Nat.{ℕ, _+_}
-use mathlib.Core.Bool.{not}
+use mathlib.Core.Bool.{Bool, false, not}
 use mathlib.Core.List.{List}
 use lib.Dec.{ltb, eqb}
+use lib.ListN.{length}
 use Rattle.terms.specs.Ladder.{_when_else_}
 use Rattle.terms.specs.declared.Refusal.the-variants.{OptionCut, DestinationForm}
 use Rattle.wire.specs.BigEndian.{numberAt}
@@ -31,3 +32,11 @@ module _ (bytes : List ℕ) (at end : ℕ) where
       Refused OptionCut when ltb end (at + (387 + certificateLength)) else
       Refused DestinationForm when not (eqb keyType 7) else
       Whole (387 + certificateLength)
+
+abbrev pub filling : ℕ → DestinationFound → Bool
+filling n (Refused r) = false
+filling n (Whole size) = eqb size n
+
+-- exactly one destination, no byte more
+unfoldable pub isDestination : List ℕ → Bool
+isDestination bytes = filling (length bytes) (destinationIn bytes 0 (length bytes))

@@ -2,11 +2,12 @@
 // Ports `Packet::parse` and `Flags::new` of emissary. The packet stays the caller's: the record holds where each part stands,
 // and the parts themselves are returned as parts of the packet by calls of their own.
 mod area;
-mod flags;
+pub mod flags;
 
 ghost use mathlib.Core.Path.{_≡_};
 ghost use Prim.Native.Nat.{_+_, _*_, _≤_};
 ghost use lib.ListN.{length};
+ghost use Rattle.packet.specs.Destination.{isDestination};
 ghost use Rattle.packet.specs.Reading.{said, readOf, fieldsOf, spanned, payloadOf, nacksOf, destinationOf, signatureOf};
 use terms::Refusal;
 use terms::SeqNo;
@@ -60,6 +61,16 @@ pub struct Found {
 pub enum Options {
     Found(Found),
     Refused(Refusal),
+}
+
+// Whether the bytes are exactly one destination, with no byte behind it.
+pub fn is_destination(bytes: &[u8]) -> bool
+    ensures { λ r. ⌜ r ≡ isDestination (now (bytes .entry)) ⌝ }
+{
+    match area::destination_in(bytes, 0, bytes.len()) {
+        DestinationFound::Whole(size) => size == bytes.len(),
+        DestinationFound::Refused(_) => false,
+    }
 }
 
 // The record of a packet whose options are found.

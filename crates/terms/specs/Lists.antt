@@ -22,3 +22,8 @@ all p (x ∷ xs) = p x && all p xs
 abbrev pub each : (ℕ → ℕ → Bool) → ℕ → List ℕ → Bool
 each p i [] = true
 each p i (x ∷ xs) = p i x && each p (suc i) xs
+
+-- lists one behind the other
+abbrev pub joined : List (List ℕ) → List ℕ
+joined [] = []
+joined (l ∷ ls) = l ++ joined ls

@@ -1,14 +1,14 @@
 -- Laws of big-endian numbers, each once for every width. Assumes nothing.
 use Prim.Native.Nat.{ℕ, zero, suc, _+_, _*_, _/_, _%_, _^_, _≤_, _<_}
-use mathlib.Core.Path.{_≡_, _∙_, subst}
-use mathlib.Core.List.{List, [], _∷_, _++_}
-use native.Mathlib.Nat.{zero-add}
+use mathlib.Core.Path.{_≡_, refl, sym, _∙_, ap, subst}
+use mathlib.Core.List.{List, [], _∷_, _++_, append-assoc, append-nil}
+use native.Mathlib.Nat.{zero-add, add-comm, mul-zero, mul-suc}
 use native.Mathlib.Numerals.{add-one}
 use native.Mathlib.Omega.{arith}
-use lib.ListN.{length, getD, take, drop, set, length-drop}
-use lib.Seq.{drop-cons, length-take-le, sets, sets-eq, paste, paste-suc}
+use lib.ListN.{length, getD, take, drop, set, length-append, length-drop}
+use lib.Seq.{take-suc, drop-cons, length-take-le, sets, sets-eq, paste, paste-suc}
 use Rattle.terms.specs.Lists.{_atFrontOf_}
-use Rattle.wire.specs.BigEndian.{spelled, bytesOf, numberAt}
+use Rattle.wire.specs.BigEndian.{spelled, bytesOf, bytesOfEach, numberAt}
 
 -- the first byte, and the number that the others spell
 pub number-step : (k at : ℕ) (s : List ℕ) → at + suc k ≤ length s → numberAt (suc k) at s ≡ getD s at 0 * 256 ^ k + numberAt k (at + 1) s
@@ -39,3 +39,19 @@ stored bytes rest h = sets-eq bytes rest 0 (omega (arith, zero-add (length bytes
 pub copied-more : (d s : List ℕ) (j : ℕ) → j < length d → j < length s → set (paste d 0 s j) j (getD s j 0) ≡ paste d 0 s (j + 1)
 copied-more d s j a b =
     rw add-one (subst (λ (m : ℕ). set (paste d 0 s j) m (getD s j 0) ≡ paste d 0 s (suc j)) (zero-add j) (paste-suc d 0 s j 0 (omega arith) b))
+
+pub length-bytes : (k x : ℕ) → length (bytesOf k x) ≡ k
+length-bytes zero x = refl
+length-bytes (suc k) x = ap suc (length-bytes k x)
+
+pub length-each : (k : ℕ) (xs : List ℕ) → length (bytesOfEach k xs) ≡ k * length xs
+length-each k [] = sym (mul-zero k)
+length-each k (x ∷ xs) = rw (length-append, length-bytes, length-each k xs, mul-suc) (add-comm k (k * length xs))
+
+pub each-append : (k : ℕ) (xs ys : List ℕ) → bytesOfEach k (xs ++ ys) ≡ bytesOfEach k xs ++ bytesOfEach k ys
+each-append k [] ys = refl
+each-append k (x ∷ xs) ys = rw (each-append k xs ys) (sym (append-assoc (bytesOf k x) (bytesOfEach k xs) (bytesOfEach k ys)))
+
+-- one number more
+pub each-more : (k : ℕ) (xs : List ℕ) (j : ℕ) → j < length xs → bytesOfEach k (take (j + 1) xs) ≡ bytesOfEach k (take j xs) ++ bytesOf k (getD xs j 0)
+each-more k xs j h = rw (add-one, take-suc xs j 0 h, each-append) (ap (λ (l : List ℕ). bytesOfEach k (take j xs) ++ l) (append-nil (bytesOf k (getD xs j 0))))

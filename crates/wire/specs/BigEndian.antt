@@ -16,3 +16,13 @@ bytesOf (suc k) x = x / 256 ^ k % 256 ∷ bytesOf k x
 -- the number that the k bytes of s from at spell
 abbrev pub numberAt : ℕ → ℕ → List ℕ → ℕ
 numberAt k at s = spelled (take k (drop at s))
+
+-- numbers one behind the other, k bytes each
+abbrev pub bytesOfEach : ℕ → List ℕ → List ℕ
+bytesOfEach k [] = []
+bytesOfEach k (x ∷ xs) = bytesOf k x ++ bytesOfEach k xs
+
+-- the n numbers that stand from at, k bytes each
+abbrev pub numbersAt : ℕ → ℕ → ℕ → List ℕ → List ℕ
+numbersAt k zero at s = []
+numbersAt k (suc n) at s = numberAt k at s ∷ numbersAt k n (at + k) s

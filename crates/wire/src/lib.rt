@@ -1,10 +1,10 @@
 // Numbers as the wire has them, big-endian: read at a place of a slice, written to the front of a lent rest.
 // These are the layer below the calls that a host makes: each asks that the bytes are there, and its callers show it.
 ghost use mathlib.Core.Path.{_≡_};
-ghost use Prim.Native.Nat.{_+_, _≤_, _<_};
+ghost use Prim.Native.Nat.{_+_, _*_, _≤_, _<_};
 ghost use lib.ListN.{length};
 ghost use Rattle.terms.specs.Lists.{_atFrontOf_};
-ghost use Rattle.wire.specs.BigEndian.{numberAt, bytesOf};
+ghost use Rattle.wire.specs.BigEndian.{numberAt, bytesOf, bytesOfEach};
 
 fn wide16(x: u8) -> u16
     ensures { λ r. ⌜ (r ≡ x) × (r < 256) ⌝ }
@@ -81,6 +81,20 @@ pub fn put_bytes(rest: &mut [u8], src: &[u8])
     let mut j = 0;
     while j < src.len() {
         rest[j] = src[j];
+        j += 1;
+    }
+}
+
+// Writes numbers of four bytes, one behind the other.
+pub fn put_numbers(rest: &mut [u8], xs: &[u32])
+    requires { ⌜ 4 * length (now xs) ≤ length (now rest) ⌝ }
+    ensures { λ _. ⌜ now (rest .exit) ≡ bytesOfEach 4 (now (xs .entry)) atFrontOf now (rest .entry) ⌝ }
+{
+    let mut at = 0;
+    let mut j = 0;
+    while j < xs.len() {
+        put32(&mut rest[at..], xs[j]);
+        at += 4;
         j += 1;
     }
 }
