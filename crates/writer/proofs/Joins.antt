@@ -1,0 +1,35 @@
+-- Parts written one behind the other are the definition's list of parts, joined. Assumes nothing.
+use Prim.Native.Nat.{ℕ, _+_, _*_}
+use mathlib.Core.Path.{_≡_, refl}
+use mathlib.Core.Bool.{Bool, true, false}
+use mathlib.Core.List.{List, _++_, append-assoc, append-nil}
+use native.Mathlib.Omega.{arith}
+use lib.ListN.{length, length-append}
+use Rattle.terms.specs.Ladder.{_when_else_}
+use Rattle.terms.specs.Lists.{joined}
+use Rattle.wire.specs.BigEndian.{bytesOf, bytesOfEach}
+use Rattle.wire.proofs.Laws.{length-each}
+use Rattle.packet.specs.Flags.{bit}
+use Rattle.writer.specs.Writing.{idParts, headParts, optionParts, ifThere}
+use Rattle.writer.specs.declared.Fields.{Fields}
+
+pub head-joined : (f : Fields) (nacks : List ℕ) (options : ℕ)
+    → joined (idParts f) ++ bytesOf 1 (length nacks) ++ bytesOfEach 4 nacks ++ bytesOf 1 (f .«resend_delay») ++ bytesOf 2 (f .flags) ++ bytesOf 2 options
+    ≡ joined (headParts f nacks options)
+head-joined f nacks options = simp append-assoc
+
+pub options-joined : (f : Fields) (destination signature : List ℕ)
+    → ifThere (bit 6 (f .flags)) (f .delay) ++ destination ++ ifThere (bit 7 (f .flags)) (f .«max_size») ++ signature ≡ joined (optionParts f destination signature)
+options-joined f destination signature = simp (append-assoc, append-nil)
+
+pub length-if : (there : Bool) (x : ℕ) → length (ifThere there x) ≡ (2 when there else 0)
+length-if true x = refl
+length-if false x = refl
+
+pub length-options : (f : Fields) (destination signature : List ℕ)
+    → length (joined (optionParts f destination signature)) ≡ (2 when bit 6 (f .flags) else 0) + length destination + (2 when bit 7 (f .flags) else 0) + length signature
+length-options f destination signature =
+    rw (← options-joined f destination signature, length-append, length-append, length-append, length-if (bit 6 (f .flags)) (f .delay), length-if (bit 7 (f .flags)) (f .«max_size»))
+
+pub length-head : (f : Fields) (nacks : List ℕ) (options : ℕ) → length (joined (headParts f nacks options)) ≡ 22 + 4 * length nacks
+length-head f nacks options = simp (length-append, length-each) (omega arith)

@@ -1,0 +1,4 @@
+-- What belongs to no one function: the ladders at each way out, the laws of writing, and that the promises determine their results.
+pub mod Joins
+pub mod Passed
+pub mod Ways

@@ -1,0 +1,97 @@
+-- `writer::judge::sizes` meets its contract: a part above 65,535 makes the packet longer than that, and else the sum is the definition's. Assumes nothing.
+use Prim.Native.Nat.{_+_, _*_}
+use mathlib.Core.Path.{_≡_, _∙_}
+use native.Mathlib.Omega.{arith}
+use Rattle.writer.specs.Writing.{signatureAt}
+use Rattle.writer.proofs.Ways.{part-long, too-long, no-room, it-fits}
+use borrow.Author.Needs.{needs}
+use Rattle.writer.proofs.judge.sizes.Statement.{statement}
+use Rattle.writer.proofs.judge.sizes.Tie as tie
+
+-- the signature begins where the definition says
+place : (c : tie.After-size-if2) → let a = c .before .before .before .before .before .before .before .args in
+    22 + 4 * a .nacks + (c .before .before .size-if .result + a .destination + c .size-if2 .result) ≡ signatureAt (a .flags) (a .nacks) (a .destination)
+place c = rw (c .before .before .size-if .ensures .0, c .size-if2 .ensures .0, c .before .before .before .has .ensures, c .before .has2 .ensures)
+
+returns : tie.Need-returns
+returns c = part-long _ _ _ _ _ _ (omega arith)
+
+returns-2 : tie.Need-returns-2
+returns-2 c = part-long _ _ _ _ _ _ (omega arith)
+
+returns-3 : tie.Need-returns-3
+returns-3 c = part-long _ _ _ _ _ _ (omega arith)
+
+has-requires : tie.Need-has-requires
+has-requires c κs = search needs
+
+size-if-requires : tie.Need-size-if-requires
+size-if-requires c κs = search needs
+
+has-requires-2 : tie.Need-has-requires-2
+has-requires-2 c κs = search needs
+
+size-if-requires-2 : tie.Need-size-if-requires-2
+size-if-requires-2 c κs = search needs
+
+mul-signature-at : tie.Need-mul-signature-at
+mul-signature-at c = search needs
+
+add-signature-at : tie.Need-add-signature-at
+add-signature-at c = search needs
+
+add-signature-at-2 : tie.Need-add-signature-at-2
+add-signature-at-2 c = search needs
+
+add-signature-at-3 : tie.Need-add-signature-at-3
+add-signature-at-3 c = search needs
+
+add-signature-at-4 : tie.Need-add-signature-at-4
+add-signature-at-4 c = search needs
+
+add-length : tie.Need-add-length
+add-length c = search needs
+
+add-length-2 : tie.Need-add-length-2
+add-length-2 c = search needs
+
+returns-4 : tie.Need-returns-4
+returns-4 c = too-long _ _ _ _ _ _ _ (place (c .before)) (c .if4 .taken)
+
+returns-5 : tie.Need-returns-5
+returns-5 c = no-room _ _ _ _ _ _ _ (place (c .before .before)) (c .before .if4 .left) (c .if5 .taken)
+
+has-requires-3 : tie.Need-has-requires-3
+has-requires-3 c κs = search needs
+
+size-if-requires-3 : tie.Need-size-if-requires-3
+size-if-requires-3 c κs = search needs
+
+returns-6 : tie.Need-returns-6
+returns-6 c =
+    let e = c .before .before in
+    it-fits _ _ _ _ _ _ _ (place (e .before .before)) (e .before .if4 .left) (e .if5 .left) _ (c .size-if3 .ensures .0 ∙ rw (c .before .has3 .ensures))
+
+pub sizes-spec : {M : Type 1} → statement M
+sizes-spec =
+    tie.close
+    (tie.spec
+    returns
+    returns-2
+    returns-3
+    has-requires
+    size-if-requires
+    has-requires-2
+    size-if-requires-2
+    mul-signature-at
+    add-signature-at
+    add-signature-at-2
+    add-signature-at-3
+    add-signature-at-4
+    add-length
+    add-length-2
+    returns-4
+    returns-5
+    has-requires-3
+    size-if-requires-3
+    returns-6)

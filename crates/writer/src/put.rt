@@ -1,0 +1,95 @@
+// The bytes of a packet: each part is written into the rest of the output that starts where the last part ended.
+use super::Fields;
+use packet::flags;
+ghost use mathlib.Core.Path.{_≡_};
+ghost use mathlib.Core.Bool.{true};
+ghost use Prim.Native.Nat.{_+_, _*_, _≤_};
+ghost use lib.ListN.{length};
+ghost use Rattle.terms.specs.Lists.{_atFrontOf_, joined};
+ghost use Rattle.writer.specs.Writing.{idParts, headParts, optionParts, packetBytes, ifThere, Fitting};
+
+// The two ids, the sequence number and ack-through.
+fn ids(rest: &mut [u8], f: Fields)
+    requires { ⌜ 16 ≤ length (now rest) ⌝ }
+    ensures { λ _. ⌜ now (rest .exit) ≡ joined (idParts f) atFrontOf now (rest .entry) ⌝ }
+{
+    let send = f.send_stream_id.0;
+    let recv = f.recv_stream_id.0;
+    let seq = f.seq_nro.0;
+    let ack = f.ack_through.0;
+    wire::put32(rest, send);
+    wire::put32(&mut rest[4..], recv);
+    wire::put32(&mut rest[8..], seq);
+    wire::put32(&mut rest[12..], ack);
+}
+
+// A number of two bytes where its option is there.
+fn put16_if(rest: &mut [u8], there: bool, x: u16)
+    requires { ⌜ (there ≡ true → 2 ≤ length (now rest)) ⌝ }
+    ensures { λ _. ⌜ now (rest .exit) ≡ ifThere there x atFrontOf now (rest .entry) ⌝ }
+{
+    if there {
+        wire::put16(rest, x);
+    }
+}
+
+// The packet up to its options.
+fn head(rest: &mut [u8], f: Fields, nacks: &[u32], options: u16)
+    requires { ⌜ (length (now nacks) ≤ 255) × (22 + 4 * length (now nacks) ≤ length (now rest)) ⌝ }
+    ensures { λ _. ⌜ now (rest .exit) ≡ joined (headParts f (now (nacks .entry)) options) atFrontOf now (rest .entry) ⌝ }
+{
+    let n = nacks.len();
+    let resend_delay = f.resend_delay;
+    let flags = f.flags;
+    ids(rest, f);
+    wire::put8(&mut rest[16..], n as u8);
+    wire::put_numbers(&mut rest[17..], nacks);
+    let at = 17 + 4 * n;
+    wire::put8(&mut rest[at..], resend_delay);
+    let flags_at = at + 1;
+    wire::put16(&mut rest[flags_at..], flags);
+    let size_at = at + 3;
+    wire::put16(&mut rest[size_at..], options);
+}
+
+// The options.
+fn options(rest: &mut [u8], f: Fields, destination: &[u8], signature: &[u8])
+    requires { ⌜ length (joined (optionParts f (now destination) (now signature))) ≤ length (now rest) ⌝ }
+    ensures { λ _. ⌜ now (rest .exit) ≡ joined (optionParts f (now (destination .entry)) (now (signature .entry))) atFrontOf now (rest .entry) ⌝ }
+{
+    let flags = f.flags;
+    let delay = f.delay;
+    let max_size = f.max_size;
+    let delayed = flags::has(flags, flags::DELAY);
+    let sized = flags::has(flags, flags::MAX_SIZE);
+    put16_if(rest, delayed, delay);
+    let destination_at = flags::size_if(delayed, 2);
+    wire::put_bytes(&mut rest[destination_at..], destination);
+    let max_at = destination_at + destination.len();
+    put16_if(&mut rest[max_at..], sized, max_size);
+    let signature_at = max_at + flags::size_if(sized, 2);
+    wire::put_bytes(&mut rest[signature_at..], signature);
+}
+
+// The whole packet.
+pub fn packet(
+    f: Fields,
+    nacks: &[u32],
+    destination: &[u8],
+    signature: &[u8],
+    payload: &[u8],
+    output: &mut [u8],
+)
+    requires { ⌜ Fitting f (length (now nacks)) (length (now destination)) (length (now signature)) (length (now payload)) (length (now output)) ⌝ }
+    ensures { λ _. ⌜ now (output .exit) ≡ packetBytes f (now (nacks .entry)) (now (destination .entry)) (now (signature .entry)) (now (payload .entry)) atFrontOf now (output .entry) ⌝ }
+{
+    let flags = f.flags;
+    let delay = flags::size_if(flags::has(flags, flags::DELAY), 2);
+    let max_size = flags::size_if(flags::has(flags, flags::MAX_SIZE), 2);
+    let size = delay + destination.len() + max_size + signature.len();
+    head(output, f, nacks, size as u16);
+    let options_at = 22 + 4 * nacks.len();
+    options(&mut output[options_at..], f, destination, signature);
+    let payload_at = options_at + size;
+    wire::put_bytes(&mut output[payload_at..], payload);
+}
