@@ -2,3 +2,4 @@
 pub mod Joins
 pub mod Passed
 pub mod Ways
+pub mod Determined

@@ -1,0 +1,19 @@
+# Two commands for a newcomer: `make demo` and `make test`. Both need the Rattle toolchain (`rt`), `rustc` and `make`, and nothing else.
+SEED ?= 1
+
+.PHONY: demo test compare
+
+demo:
+	@tools/build demo
+	@tools/run demo
+
+# The tests, then the verdict. `rt ci` starts from nothing: its last line is 'N passed, 0 failed'.
+test: compare
+	@rt ci
+
+# Our program beside the Rust as given, on the same calls.
+compare:
+	@oracle/build.sh
+	@tools/build drive
+	@oracle/compare.sh read $(SEED) 100000
+	@oracle/compare.sh write $(SEED) 120000
