@@ -2,32 +2,35 @@
 // Every function takes the window and its marks. A record that is cut spoils the script: what is taken from there on is 0,
 // so that a call takes all its numbers first and asks `good` once.
 use libc::STDIN_FILENO;
-ghost use Rattle.io.specs.Counts.{Counts};
 ghost use Prim.Native.Nat.{_≤_};
 ghost use lib.ListN.{length};
 
-// The window's marks: where the next byte stands, where the bytes that were read end, and 1 where the script is spoiled.
-pub const AT: usize = 0;
+const SIZE: usize = 65536;
 
-pub const END: usize = 1;
+pub type Window = [u8; SIZE];
 
-pub const SPOILED: usize = 2;
+// Where the next byte stands, where the bytes that were read end, and 1 where the script is spoiled.
+pub type Marks = [usize; 3];
+
+const AT: usize = 0;
+
+const END: usize = 1;
+
+const SPOILED: usize = 2;
 
 // How many bytes wait in the window.
-fn waiting(window: &[u8], marks: &[usize; 3]) -> usize {
+fn waiting(marks: &Marks) -> usize {
     let at = marks[AT];
     let end = marks[END];
     if at < end {
-        if end <= window.len() {
-            return end - at;
-        }
+        return end - at;
     }
     0
 }
 
 // Fills the window where nothing waits in it.
-fn fill(window: &mut [u8], marks: &mut [usize; 3]) {
-    if waiting(window, marks) == 0 {
+fn fill(window: &mut Window, marks: &mut Marks) {
+    if waiting(marks) == 0 {
         let got = io::read_full(STDIN_FILENO, window);
         marks[AT] = 0;
         marks[END] = got;
@@ -35,29 +38,29 @@ fn fill(window: &mut [u8], marks: &mut [usize; 3]) {
 }
 
 // Whether the script is at its end.
-pub fn ended(window: &mut [u8], marks: &mut [usize; 3]) -> bool {
+pub fn ended(window: &mut Window, marks: &mut Marks) -> bool {
     fill(window, marks);
-    waiting(window, marks) == 0
+    waiting(marks) == 0
 }
 
 // Says that the script cannot be read on.
-pub fn spoil(marks: &mut [usize; 3]) {
+pub fn spoil(marks: &mut Marks) {
     marks[SPOILED] = 1;
 }
 
-pub fn good(marks: &[usize; 3]) -> bool {
+pub fn good(marks: &Marks) -> bool {
     marks[SPOILED] == 0
 }
 
 // The next byte, a number of one byte.
-pub fn byte(window: &mut [u8], marks: &mut [usize; 3]) -> u8 {
+pub fn byte(window: &mut Window, marks: &mut Marks) -> u8 {
     fill(window, marks);
     let at = marks[AT];
-    if waiting(window, marks) == 0 {
+    if waiting(marks) == 0 {
         spoil(marks);
         return 0;
     }
-    if at < window.len() {
+    if at < SIZE {
         marks[AT] = at + 1;
         return window[at];
     }
@@ -65,7 +68,7 @@ pub fn byte(window: &mut [u8], marks: &mut [usize; 3]) -> u8 {
 }
 
 // The next width bytes as a number, big-endian.
-fn number(window: &mut [u8], marks: &mut [usize; 3], width: u32) -> u64 {
+fn number(window: &mut Window, marks: &mut Marks, width: u32) -> u64 {
     let mut left = width;
     let mut x: u64 = 0;
     while left > 0 {
@@ -76,15 +79,15 @@ fn number(window: &mut [u8], marks: &mut [usize; 3], width: u32) -> u64 {
 }
 
 // Numbers of two, four and eight bytes.
-pub fn number2(window: &mut [u8], marks: &mut [usize; 3]) -> u16 {
+pub fn number2(window: &mut Window, marks: &mut Marks) -> u16 {
     (number(window, marks, 2) % 65536) as u16
 }
 
-pub fn number4(window: &mut [u8], marks: &mut [usize; 3]) -> u32 {
+pub fn number4(window: &mut Window, marks: &mut Marks) -> u32 {
     (number(window, marks, 4) % 4294967296) as u32
 }
 
-pub fn number8(window: &mut [u8], marks: &mut [usize; 3]) -> u64 {
+pub fn number8(window: &mut Window, marks: &mut Marks) -> u64 {
     number(window, marks, 8)
 }
 
@@ -107,26 +110,34 @@ fn copy(dst: &mut [u8], src: &[u8]) -> usize
     n
 }
 
-// Takes the bytes that wait, as many as into holds, and answers how many: none only where the script is at its end.
-fn take_some(window: &mut [u8], marks: &mut [usize; 3], into: &mut [u8]) -> usize
+// Takes the bytes that wait from at to end, as many as into holds, and answers how many.
+fn take_waiting(window: &[u8], at: usize, end: usize, into: &mut [u8]) -> usize
     ensures { λ r. ⌜ r ≤ length (now (into .exit)) ⌝ }
 {
-    fill(window, marks);
-    let at = marks[AT];
-    let end = marks[END];
     if at > end {
         return 0;
     }
     if end > window.len() {
         return 0;
     }
-    let n = copy(into, &window[at..end]);
-    marks[AT] = at + n;
+    copy(into, &window[at..end])
+}
+
+// The same of the window, filled where nothing waits in it: none only where the script is at its end.
+fn take_some(window: &mut Window, marks: &mut Marks, into: &mut [u8]) -> usize
+    ensures { λ r. ⌜ r ≤ length (now (into .exit)) ⌝ }
+{
+    fill(window, marks);
+    let at = marks[AT];
+    let n = take_waiting(window, at, marks[END], into);
+    if at < SIZE {
+        marks[AT] = at + n;
+    }
     n
 }
 
 // Takes exactly n bytes to the front of into.
-pub fn take(window: &mut [u8], marks: &mut [usize; 3], into: &mut [u8], n: usize)
+pub fn take(window: &mut Window, marks: &mut Marks, into: &mut [u8], n: usize)
     requires { ⌜ n ≤ length (now into) ⌝ }
 {
     let mut done = 0;
@@ -142,9 +153,7 @@ pub fn take(window: &mut [u8], marks: &mut [usize; 3], into: &mut [u8], n: usize
 
 // Takes a length of four bytes and that many bytes to the front of into, and answers the length. A length that into
 // cannot hold spoils the script.
-pub fn bytes(window: &mut [u8], marks: &mut [usize; 3], into: &mut [u8]) -> usize
-    ensures { λ r. ⌜ Counts r (now (into .exit)) ⌝ }
-{
+pub fn bytes(window: &mut Window, marks: &mut Marks, into: &mut [u8]) -> usize {
     let n = number4(window, marks) as usize;
     if n > into.len() {
         spoil(marks);

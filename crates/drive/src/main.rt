@@ -2,14 +2,20 @@
 // A call is a letter, a module of its own and one line of `call`; the registers that it keeps are lent by `main`.
 mod input;
 mod output;
+mod part;
 mod read;
+
+use input::Marks;
+use input::Window;
+use output::Page;
+use read::Bytes;
 
 // One call, by its letter.
 fn call(
-    window: &mut [u8],
-    marks: &mut [usize; 3],
-    bytes: &mut [u8],
-    page: &mut [u8],
+    window: &mut Window,
+    marks: &mut Marks,
+    bytes: &mut Bytes,
+    page: &mut Page,
     used: &mut usize,
 ) {
     match input::byte(window, marks) {
@@ -20,10 +26,10 @@ fn call(
 
 // One call, or the word that the script is bad; whether to go on.
 fn step(
-    window: &mut [u8],
-    marks: &mut [usize; 3],
-    bytes: &mut [u8],
-    page: &mut [u8],
+    window: &mut Window,
+    marks: &mut Marks,
+    bytes: &mut Bytes,
+    page: &mut Page,
     used: &mut usize,
 ) -> bool {
     if input::ended(window, marks) {
@@ -39,10 +45,10 @@ fn step(
 
 // Nothing says that a script ends, so the turns are counted down, from a number that no run uses up.
 fn steps(
-    window: &mut [u8],
-    marks: &mut [usize; 3],
-    bytes: &mut [u8],
-    page: &mut [u8],
+    window: &mut Window,
+    marks: &mut Marks,
+    bytes: &mut Bytes,
+    page: &mut Page,
     used: &mut usize,
 ) {
     let mut turns = u64::MAX;

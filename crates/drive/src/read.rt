@@ -1,23 +1,27 @@
 // The call 'r': a packet is read, and its fields, places and parts are told.
 use super::input;
+use super::input::Marks;
+use super::input::Window;
 use super::output;
+use super::output::Page;
+use super::part;
 use packet::Packet;
 use packet::Reading;
 use packet::Span;
 
-fn span(page: &mut [u8], used: &mut usize, s: Span) {
+// The longest packet that a script may give.
+pub type Bytes = [u8; 66000];
+
+fn span(page: &mut Page, used: &mut usize, s: Span) {
     output::size(page, used, s.at);
     output::size(page, used, s.len);
 }
 
-fn large_numbers(page: &mut [u8], used: &mut usize, p: Packet) {
+fn numbers(page: &mut Page, used: &mut usize, p: Packet) {
     output::number32(page, used, p.send_stream_id.0);
     output::number32(page, used, p.recv_stream_id.0);
     output::number32(page, used, p.seq_nro.0);
     output::number32(page, used, p.ack_through.0);
-}
-
-fn small_numbers(page: &mut [u8], used: &mut usize, p: Packet) {
     output::number8(page, used, p.resend_delay);
     output::number16(page, used, p.flags);
     output::number16(page, used, p.delay);
@@ -25,7 +29,7 @@ fn small_numbers(page: &mut [u8], used: &mut usize, p: Packet) {
 }
 
 // Where each part stands.
-fn places(page: &mut [u8], used: &mut usize, p: Packet) {
+fn places(page: &mut Page, used: &mut usize, p: Packet) {
     let nacks = p.nacks;
     let destination = p.destination;
     let signature = p.signature;
@@ -38,7 +42,7 @@ fn places(page: &mut [u8], used: &mut usize, p: Packet) {
 }
 
 // A checksum of each part, as the calls for the parts return it.
-fn parts(page: &mut [u8], used: &mut usize, bytes: &[u8]) {
+fn parts(page: &mut Page, used: &mut usize, bytes: &[u8]) {
     output::sum(page, used, packet::nacks(bytes));
     output::sum(page, used, packet::destination(bytes));
     output::sum(page, used, packet::signature(bytes));
@@ -46,15 +50,14 @@ fn parts(page: &mut [u8], used: &mut usize, bytes: &[u8]) {
 }
 
 // What a packet that is read says: the refusal number 0, then all of it.
-fn values(page: &mut [u8], used: &mut usize, bytes: &[u8], p: Packet) {
+fn values(page: &mut Page, used: &mut usize, bytes: &[u8], p: Packet) {
     output::number(page, used, 0);
-    large_numbers(page, used, p);
-    small_numbers(page, used, p);
+    numbers(page, used, p);
     places(page, used, p);
     parts(page, used, bytes);
 }
 
-fn answer(page: &mut [u8], used: &mut usize, bytes: &[u8]) {
+fn answer(page: &mut Page, used: &mut usize, bytes: &[u8]) {
     output::word(page, used, b"read");
     match packet::read(bytes) {
         Reading::Refused(r) => {
@@ -68,16 +71,16 @@ fn answer(page: &mut [u8], used: &mut usize, bytes: &[u8]) {
     }
 }
 
-// Takes the packet into a register, and answers.
+// Takes the packet to the front of bytes, and answers.
 pub fn call(
-    window: &mut [u8],
-    marks: &mut [usize; 3],
-    bytes: &mut [u8],
-    page: &mut [u8],
+    window: &mut Window,
+    marks: &mut Marks,
+    bytes: &mut Bytes,
+    page: &mut Page,
     used: &mut usize,
 ) {
     let n = input::bytes(window, marks, bytes);
     if input::good(marks) {
-        answer(page, used, &bytes[..n]);
+        answer(page, used, part::front(bytes, n));
     }
 }

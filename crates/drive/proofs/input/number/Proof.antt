@@ -1,12 +1,10 @@
 -- A number below 2^56 times 256 and a byte fit 64 bits. The measure is how many bytes are left.
 use borrow.Author.Needs.{needs}
-use mathlib.Core.Path.{_≡_}
-use lib.ListN.{length}
 use Rattle.drive.proofs.input.number.Statement.{statement}
 use Rattle.drive.proofs.input.number.Tie as tie
 
 abbrev Inv-loop : tie.InvT-loop
-Inv-loop window₀ marks₀ width left₀ x₀ window marks left x = length window ≡ length window₀
+Inv-loop window₀ marks₀ width left₀ x₀ window marks left x = Unit {0}
 
 abbrev μ-loop : tie.MeasureT-loop
 μ-loop window₀ marks₀ width left₀ x₀ window marks left x = left
@@ -35,9 +33,6 @@ loop-less c = search needs
 loop-again : tie.Need-loop-again Inv-loop μ-loop
 loop-again c = search needs
 
-same-length : tie.Need-same-length Inv-loop μ-loop
-same-length c = search needs
-
 returns : tie.Need-returns Inv-loop μ-loop
 returns c = search needs
 
@@ -55,5 +50,4 @@ number-spec =
     sub-left
     loop-less
     loop-again
-    same-length
     returns)

@@ -1,4 +1,4 @@
--- The bytes taken are at most n, and both slices keep their lengths. The measure is what is left of n.
+-- The bytes taken are at most n, and into keeps its length. The measure is what is left of n.
 use borrow.Author.Needs.{needs}
 use Prim.Native.Nat.{_≤_, _-_}
 use mathlib.Core.Path.{_≡_}
@@ -7,7 +7,7 @@ use Rattle.drive.proofs.input.take.Statement.{statement}
 use Rattle.drive.proofs.input.take.Tie as tie
 
 abbrev Inv-loop : tie.InvT-loop
-Inv-loop window₀ marks₀ into₀ n done₀ window marks into done = (length window ≡ length window₀) × (length into ≡ length into₀) × (done ≤ n)
+Inv-loop window₀ marks₀ into₀ n done₀ window marks into done = (length into ≡ length into₀) × (done ≤ n)
 
 abbrev μ-loop : tie.MeasureT-loop
 μ-loop window₀ marks₀ into₀ n done₀ window marks into done = n - done
@@ -33,9 +33,6 @@ spoil-requires c κs = search needs
 same-length : tie.Need-same-length Inv-loop μ-loop
 same-length c = search needs
 
-same-length-2 : tie.Need-same-length-2 Inv-loop μ-loop
-same-length-2 c = search needs
-
 returns : tie.Need-returns Inv-loop μ-loop
 returns c = search needs
 
@@ -48,11 +45,8 @@ loop-less c = search needs
 loop-again : tie.Need-loop-again Inv-loop μ-loop
 loop-again c = search needs
 
-same-length-3 : tie.Need-same-length-3 Inv-loop μ-loop
-same-length-3 c = search needs
-
-same-length-4 : tie.Need-same-length-4 Inv-loop μ-loop
-same-length-4 c = search needs
+same-length-2 : tie.Need-same-length-2 Inv-loop μ-loop
+same-length-2 c = search needs
 
 returns-2 : tie.Need-returns-2 Inv-loop μ-loop
 returns-2 c = search needs
@@ -70,11 +64,9 @@ take-spec =
     take-some-requires
     spoil-requires
     same-length
-    same-length-2
     returns
     add-done
     loop-less
     loop-again
-    same-length-3
-    same-length-4
+    same-length-2
     returns-2)

@@ -1,13 +1,12 @@
--- The page keeps its length. The measure is what is left of the text.
+-- The measure is what is left of the text.
 use borrow.Author.Needs.{needs}
 use Prim.Native.Nat.{_≤_, _-_}
-use mathlib.Core.Path.{_≡_}
 use lib.ListN.{length}
 use Rattle.drive.proofs.output.word.Statement.{statement}
 use Rattle.drive.proofs.output.word.Tie as tie
 
 abbrev Inv-loop : tie.InvT-loop
-Inv-loop page₀ used₀ text i₀ page used i = (length page ≡ length page₀) × (i ≤ length text)
+Inv-loop page₀ used₀ text i₀ page used i = i ≤ length text
 
 abbrev μ-loop : tie.MeasureT-loop
 μ-loop page₀ used₀ text i₀ page used i = length text - i
@@ -30,9 +29,6 @@ loop-less c = search needs
 loop-again : tie.Need-loop-again Inv-loop μ-loop
 loop-again c = search needs
 
-same-length : tie.Need-same-length Inv-loop μ-loop
-same-length c = search needs
-
 returns : tie.Need-returns Inv-loop μ-loop
 returns c = search needs
 
@@ -48,5 +44,4 @@ word-spec =
     add-i
     loop-less
     loop-again
-    same-length
     returns)
