@@ -60,7 +60,7 @@ fn steps(
 fn main() {
     let mut window = [0u8; 65536];
     let mut marks = [0usize; 3];
-    let mut bytes = [0u8; 66000];
+    let mut bytes = [0u8; 70000];
     let mut page = [0u8; 65536];
     let mut used: usize = 0;
     steps(&mut window, &mut marks, &mut bytes, &mut page, &mut used);

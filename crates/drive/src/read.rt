@@ -10,7 +10,7 @@ use packet::Reading;
 use packet::Span;
 
 // The longest packet that a script may give.
-pub type Bytes = [u8; 66000];
+pub type Bytes = [u8; 70000];
 
 fn span(page: &mut Page, used: &mut usize, s: Span) {
     output::size(page, used, s.at);
