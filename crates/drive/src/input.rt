@@ -1,6 +1,7 @@
 // The script: a window over standard input, filled anew when all of it is taken, so that a number costs no call of the system.
 // Every function takes the window and its marks. A record that is cut spoils the script: what is taken from there on is 0,
 // so that a call takes all its numbers first and asks `good` once.
+use super::part;
 use libc::STDIN_FILENO;
 ghost use Prim.Native.Nat.{_≤_};
 ghost use lib.ListN.{length};
@@ -160,5 +161,32 @@ pub fn bytes(window: &mut Window, marks: &mut Marks, into: &mut [u8]) -> usize {
         return 0;
     }
     take(window, marks, into, n);
+    n
+}
+
+// Takes a count of two bytes and that many numbers of four to the front of into, and answers the count.
+pub fn numbers(window: &mut Window, marks: &mut Marks, into: &mut [u32]) -> usize {
+    let n = number2(window, marks) as usize;
+    if n > into.len() {
+        spoil(marks);
+        return 0;
+    }
+    let mut i = 0;
+    while i < n {
+        into[i] = number4(window, marks);
+        i += 1;
+    }
+    n
+}
+
+// Takes a length of four bytes and a byte, and makes a buffer of that length, filled with that byte, of the front of into.
+pub fn buffer(window: &mut Window, marks: &mut Marks, into: &mut [u8]) -> usize {
+    let n = number4(window, marks) as usize;
+    let byte = byte(window, marks);
+    if n > into.len() {
+        spoil(marks);
+        return 0;
+    }
+    part::fill(into, n, byte);
     n
 }

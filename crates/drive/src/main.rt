@@ -4,22 +4,39 @@ mod input;
 mod output;
 mod part;
 mod read;
+mod write;
 
 use input::Marks;
 use input::Window;
 use output::Page;
-use read::Bytes;
+use part::Bytes;
+use part::Numbers;
 
 // One call, by its letter.
 fn call(
     window: &mut Window,
     marks: &mut Marks,
-    bytes: &mut Bytes,
+    numbers: &mut Numbers,
+    first: &mut Bytes,
+    second: &mut Bytes,
+    third: &mut Bytes,
+    out: &mut Bytes,
     page: &mut Page,
     used: &mut usize,
 ) {
     match input::byte(window, marks) {
-        b'r' => read::call(window, marks, bytes, page, used),
+        b'r' => read::call(window, marks, first, page, used),
+        b'w' => write::call(
+            window,
+            marks,
+            numbers,
+            second,
+            third,
+            first,
+            out,
+            page,
+            used,
+        ),
         _ => input::spoil(marks),
     }
 }
@@ -28,14 +45,28 @@ fn call(
 fn step(
     window: &mut Window,
     marks: &mut Marks,
-    bytes: &mut Bytes,
+    numbers: &mut Numbers,
+    first: &mut Bytes,
+    second: &mut Bytes,
+    third: &mut Bytes,
+    out: &mut Bytes,
     page: &mut Page,
     used: &mut usize,
 ) -> bool {
     if input::ended(window, marks) {
         return false;
     }
-    call(window, marks, bytes, page, used);
+    call(
+        window,
+        marks,
+        numbers,
+        first,
+        second,
+        third,
+        out,
+        page,
+        used,
+    );
     if input::good(marks) {
         return true;
     }
@@ -47,12 +78,28 @@ fn step(
 fn steps(
     window: &mut Window,
     marks: &mut Marks,
-    bytes: &mut Bytes,
+    numbers: &mut Numbers,
+    first: &mut Bytes,
+    second: &mut Bytes,
+    third: &mut Bytes,
+    out: &mut Bytes,
     page: &mut Page,
     used: &mut usize,
 ) {
     let mut turns = u64::MAX;
-    while turns > 0 && step(window, marks, bytes, page, used) {
+    while turns > 0
+        && step(
+            window,
+            marks,
+            numbers,
+            first,
+            second,
+            third,
+            out,
+            page,
+            used,
+        )
+    {
         turns -= 1;
     }
 }
@@ -60,9 +107,23 @@ fn steps(
 fn main() {
     let mut window = [0u8; 65536];
     let mut marks = [0usize; 3];
-    let mut bytes = [0u8; 70000];
+    let mut numbers = [0u32; 300];
+    let mut first = [0u8; 70000];
+    let mut second = [0u8; 70000];
+    let mut third = [0u8; 70000];
+    let mut out = [0u8; 70000];
     let mut page = [0u8; 65536];
     let mut used: usize = 0;
-    steps(&mut window, &mut marks, &mut bytes, &mut page, &mut used);
+    steps(
+        &mut window,
+        &mut marks,
+        &mut numbers,
+        &mut first,
+        &mut second,
+        &mut third,
+        &mut out,
+        &mut page,
+        &mut used,
+    );
     output::flush(&mut page, &mut used);
 }

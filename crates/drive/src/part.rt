@@ -1,4 +1,26 @@
-// The first n bytes of a lent array, none where it has fewer.
+// The registers that a script fills, and their fronts: the first n elements, none where there are fewer.
+ghost use Prim.Native.Nat.{_≤_};
+ghost use lib.ListN.{length};
+
+pub type Bytes = [u8; 70000];
+
+pub type Numbers = [u32; 300];
+
 pub fn front(s: &[u8], n: usize) -> &[u8] {
     if n <= s.len() { &s[..n] } else { &s[..0] }
+}
+
+pub fn front32(s: &[u32], n: usize) -> &[u32] {
+    if n <= s.len() { &s[..n] } else { &s[..0] }
+}
+
+// Makes the first n bytes all the same.
+pub fn fill(s: &mut [u8], n: usize, byte: u8)
+    requires { ⌜ n ≤ length (now s) ⌝ }
+{
+    let mut i = 0;
+    while i < n {
+        s[i] = byte;
+        i += 1;
+    }
 }

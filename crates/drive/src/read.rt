@@ -5,12 +5,10 @@ use super::input::Window;
 use super::output;
 use super::output::Page;
 use super::part;
+use super::part::Bytes;
 use packet::Packet;
 use packet::Reading;
 use packet::Span;
-
-// The longest packet that a script may give.
-pub type Bytes = [u8; 70000];
 
 fn span(page: &mut Page, used: &mut usize, s: Span) {
     output::size(page, used, s.at);
