@@ -1,7 +1,13 @@
 -- Numbers on the wire: big-endian, the first byte counting most.
 use Prim.Native.Nat.{ℕ, zero, suc, _+_, _*_, _/_, _%_, _^_}
+use mathlib.Core.Bool.{Bool}
 use mathlib.Core.List.{List, [], _∷_, _++_}
+use lib.Dec.{ltb}
 use lib.ListN.{length, take, drop}
+
+-- what one byte holds
+abbrev pub isByte : ℕ → Bool
+isByte b = ltb b 256
 
 -- the number that bytes spell
 abbrev pub spelled : List ℕ → ℕ
