@@ -41,6 +41,12 @@ and-right false false h = h
 pub and-both : (a b : Bool) → a ≡ true → b ≡ true → (a && b) ≡ true
 and-both a b p q = rw (p, q)
 
+-- refused with b, and refused without it
+pub both-false : (a b : Bool) → (a && not b) ≡ false → (a && b) ≡ false → a ≡ false
+both-false true true p q = q
+both-false true false p q = p
+both-false false b p q = refl
+
 -- a test at each place.
 pub each-at : (p : ℕ → ℕ → Bool) (l : List ℕ) (i : ℕ) → each p i l ≡ true → (k : ℕ) → k < length l → p (i + k) (getD l k 0) ≡ true
 each-at p [] i t k h = absurd (not-suc-le-zero h)

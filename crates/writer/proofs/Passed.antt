@@ -10,7 +10,7 @@ use lib.ListN.{length}
 use Rattle.terms.specs.Ladder.{_when_else_}
 use Rattle.terms.specs.declared.Refusal.{Refusal}
 use Rattle.terms.specs.declared.Refusal.the-variants.{PacketLong, DestinationForm, OfflineAlone, OfflineBlock, OutputShort, NacksMany, PartsUnfit}
-use Rattle.terms.proofs.Laws.{rung-passed}
+use Rattle.terms.proofs.Laws.{rung-passed, both-false}
 use Rattle.terms.proofs.Numbers.{number-some}
 use Rattle.packet.specs.Flags.{bit}
 use Rattle.packet.specs.Destination.{isDestination}
@@ -22,11 +22,6 @@ refusal-of s = s .refusal
 
 not-refused : (z : Said) → z .refusal ≡ 0 → (r : Refusal) → refused r ≡ z → ⊥
 not-refused z e r h = omega (arith, number-some r, ap refusal-of h)
-
-both-false : (a b : Bool) → (a && not b) ≡ false → (a && b) ≡ false → a ≡ false
-both-false true true p q = q
-both-false true false p q = p
-both-false false b p q = refl
 
 pub record Passed (f : Fields) (nacks : ℕ) (destination : List ℕ) (signature payload room : ℕ) (z : Said) : Type 0 where
   pub fitting : Fitting f nacks (length destination) signature payload room
