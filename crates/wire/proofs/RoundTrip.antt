@@ -104,20 +104,21 @@ part-here at n p w r e l = rw e (take-at w r n l)
 pub number-here : (k x at : ℕ) (p r : List ℕ) → x < 256 ^ k → drop at p ≡ bytesOf k x ++ r → numberAt k at p ≡ x
 number-here k x at p r h e = rw (part-here at k p (bytesOf k x) r e (length-bytes k x)) (spelled-bytes k x h)
 
-abbrev pub below : ℕ → ℕ → Bool
-below k x = ltb x (256 ^ k)
+-- x fits k bytes
+abbrev pub fits : ℕ → ℕ → Bool
+fits k x = ltb x (256 ^ k)
 
-pub numbers-here : (k : ℕ) (xs : List ℕ) (at : ℕ) (p r : List ℕ) → all (below k) xs ≡ true → drop at p ≡ bytesOfEach k xs ++ r
+pub numbers-here : (k : ℕ) (xs : List ℕ) (at : ℕ) (p r : List ℕ) → all (fits k) xs ≡ true → drop at p ≡ bytesOfEach k xs ++ r
     → numbersAt k (length xs) at p ≡ xs
 numbers-here k [] at p r h e = refl
 numbers-here k (x ∷ xs) at p r h e =
     let f : drop at p ≡ bytesOf k x ++ (bytesOfEach k xs ++ r) = e ∙ append-assoc (bytesOf k x) (bytesOfEach k xs) r in
-    let n = number-here k x at p (bytesOfEach k xs ++ r) (ltb-true x (256 ^ k) (and-left (below k x) (all (below k) xs) h)) f in
+    let n = number-here k x at p (bytesOfEach k xs ++ r) (ltb-true x (256 ^ k) (and-left (fits k x) (all (fits k) xs) h)) f in
     let g = past at k (at + k) p (bytesOf k x) (bytesOfEach k xs ++ r) f (length-bytes k x) refl in
-    rw (n, numbers-here k xs (at + k) p r (and-right (below k x) (all (below k) xs) h) g)
+    rw (n, numbers-here k xs (at + k) p r (and-right (fits k x) (all (fits k) xs) h) g)
 
 -- four bytes each, from the front
-pub each-numbers : (xs r : List ℕ) → all (below 4) xs ≡ true → numbersAt 4 (length xs) 0 (bytesOfEach 4 xs ++ r) ≡ xs
+pub each-numbers : (xs r : List ℕ) → all (fits 4) xs ≡ true → numbersAt 4 (length xs) 0 (bytesOfEach 4 xs ++ r) ≡ xs
 each-numbers xs r h = numbers-here 4 xs 0 (bytesOfEach 4 xs ++ r) r h refl
 
 -- a number that stands in d, where p goes on from a as d

@@ -1,8 +1,8 @@
 -- Parts written one behind the other are the definition's list of parts, joined. Assumes nothing.
 use Prim.Native.Nat.{ℕ, _+_, _*_}
-use mathlib.Core.Path.{_≡_, refl}
+use mathlib.Core.Path.{_≡_, refl, _∙_, ap}
 use mathlib.Core.Bool.{Bool, true, false}
-use mathlib.Core.List.{List, _++_, append-assoc, append-nil}
+use mathlib.Core.List.{List, [], _∷_, _++_, append-assoc, append-nil}
 use native.Mathlib.Omega.{arith}
 use lib.ListN.{length, length-append}
 use Rattle.terms.specs.Ladder.{_when_else_}
@@ -10,7 +10,7 @@ use Rattle.terms.specs.Lists.{joined}
 use Rattle.wire.specs.BigEndian.{bytesOf, bytesOfEach}
 use Rattle.wire.proofs.Laws.{length-each}
 use Rattle.packet.specs.Flags.{bit}
-use Rattle.writer.specs.Writing.{idParts, headParts, optionParts, ifThere}
+use Rattle.writer.specs.Writing.{idParts, headParts, optionParts, packetBytes, ifThere}
 use Rattle.writer.specs.declared.Fields.{Fields}
 
 pub head-joined : (f : Fields) (nacks : List ℕ) (options : ℕ)
@@ -33,3 +33,32 @@ length-options f destination signature =
 
 pub length-head : (f : Fields) (nacks : List ℕ) (options : ℕ) → length (joined (headParts f nacks options)) ≡ 22 + 4 * length nacks
 length-head f nacks options = simp (length-append, length-each) (omega arith)
+
+-- the parts ls, each behind the last, and r behind them
+abbrev pub behind : List (List ℕ) → List ℕ → List ℕ
+behind [] r = r
+behind (l ∷ ls) r = l ++ behind ls r
+
+joined-behind : (ls : List (List ℕ)) (r : List ℕ) → joined ls ++ r ≡ behind ls r
+joined-behind [] r = refl
+joined-behind (l ∷ ls) r = append-assoc l (joined ls) r ∙ ap (λ (b : List ℕ). l ++ b) (joined-behind ls r)
+
+abbrev pub optionsLength : Fields → List ℕ → List ℕ → ℕ
+optionsLength f destination signature = length (joined (optionParts f destination signature))
+
+module _ (f : Fields) (nacks destination signature payload : List ℕ) where
+  pub packet-behind : packetBytes f nacks destination signature payload ≡ behind (headParts f nacks (optionsLength f destination signature)) (behind (optionParts f destination signature) payload)
+  unfolding packetBytes
+  packet-behind =
+      ap (λ (b : List ℕ). joined (headParts f nacks (optionsLength f destination signature)) ++ b) (joined-behind (optionParts f destination signature) payload)
+      ∙ joined-behind (headParts f nacks (optionsLength f destination signature)) (behind (optionParts f destination signature) payload)
+
+  pub length-packet : length (packetBytes f nacks destination signature payload) ≡ 22 + 4 * length nacks + optionsLength f destination signature + length payload
+  unfolding packetBytes
+  length-packet =
+      rw (
+        length-append (joined (headParts f nacks (optionsLength f destination signature))) (joined (optionParts f destination signature) ++ payload),
+        length-head f nacks (optionsLength f destination signature),
+        length-append (joined (optionParts f destination signature)) payload,
+      )
+      (omega arith)

@@ -3,3 +3,4 @@ pub mod Joins
 pub mod Passed
 pub mod Ways
 pub mod Determined
+pub mod ReadsBack
