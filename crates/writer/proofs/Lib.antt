@@ -4,3 +4,4 @@ pub mod Passed
 pub mod Ways
 pub mod Determined
 pub mod ReadsBack
+pub mod WritesBack
