@@ -3,26 +3,26 @@
 use Prim.Native.Nat.{ℕ, zero, suc, _+_, _-_, _*_, _≤_}
 use mathlib.Core.Path.{_≡_, refl, sym, _∙_, ap}
 use mathlib.Core.Bool.{Bool, true, false, _&&_, not}
-use mathlib.Core.List.{List, [], _∷_}
+use mathlib.Core.List.{List, [], _∷_, _++_}
 use native.Mathlib.Nat.{zero-add, suc-add}
 use native.Mathlib.Omega.{arith}
 use borrow.Author.Tests.{ltb-false}
 use lib.Dec.{ltb, eqb}
-use lib.ListN.{length, take, drop, length-drop}
-use lib.Seq.{take-nil, take-take, take-all}
+use lib.ListN.{length, take, drop, length-append, length-drop}
+use lib.Seq.{take-nil, take-take, take-all, take-at, length-take-le}
 use Rattle.terms.specs.Ladder.{_when_else_}
 use Rattle.terms.specs.Lists.{part}
 use Rattle.wire.specs.BigEndian.{spelled, numberAt}
 use Rattle.packet.specs.Flags.{bit}
 use Rattle.packet.specs.Destination.{certificateType, certificateLength, keyType, destinationIn}
 use Rattle.packet.specs.Options.{destinationAt, maxAt, signatureAt, signatureSize, destinationSize, afterDestination, following, optionsIn}
-use Rattle.packet.specs.Reading.{nackCount, flagsOf, optionsAt, optionsEnd, fieldsOf, withOptions, readOf, nacksOf, destinationOf, signatureOf, payloadOf}
+use Rattle.packet.specs.Reading.{Said, nackCount, flagsOf, optionsAt, optionsEnd, fieldsOf, withOptions, readOf, nacksOf, destinationOf, signatureOf, payloadOf}
 use Rattle.packet.specs.declared.DestinationFound.{DestinationFound}
 use Rattle.packet.specs.declared.DestinationFound.the-variants as D
 use Rattle.packet.specs.declared.Found.{Found}
 use Rattle.packet.specs.declared.Options.{Options}
 use Rattle.packet.specs.declared.Options.the-variants as O
-use Rattle.packet.proofs.Readable.{Readable}
+use Rattle.packet.proofs.Readable.{readable}
 
 -- two ladders with the same test, that go on alike where it fails
 same-rung : {A : Type 0} (x : A) {y z : A} (s t : Bool) → s ≡ t → (s ≡ false → y ≡ z) → (x when s else y) ≡ (x when t else z)
@@ -115,20 +115,34 @@ reads-alike p q l e =
     ap (withOptions p) (options-alike p q (optionsEnd p) same (optionsAt p) (flagsOf p) ∙ options)
     ∙ said-alike p q (λ f. fields-alike p q (optionsEnd p) same (nackCount p) (flagsOf p) f l (omega arith) ∙ fields f) (optionsIn q (optionsAt q) (optionsEnd q) (flagsOf q))
 
--- What each part of a readable packet is, as a list.
-pub record PartsAre (p : List ℕ) (size : ℕ) : Type 0 where
+-- so another payload as long changes no field
+pub payload-apart : (p payload : List ℕ) → optionsEnd p + length payload ≡ length p → readOf p ≡ readOf (take (optionsEnd p) p ++ payload)
+payload-apart p payload h =
+    let front : length (take (optionsEnd p) p) ≡ optionsEnd p = length-take-le (optionsEnd p) p (omega arith) in
+    reads-alike p (take (optionsEnd p) p ++ payload) (rw (length-append, front) (omega arith)) (sym (take-at (take (optionsEnd p) p) payload (optionsEnd p) front))
+
+-- how long the destination is
+abbrev pub destinationLength : List ℕ → ℕ
+destinationLength p = readOf p .values .destination .len
+
+-- What each part of a packet is, as a list.
+pub record PartsAre (p : List ℕ) : Type 0 where
   pub nacks-are : nacksOf p ≡ part p 17 (17 + 4 * nackCount p)
-  pub destination-is : destinationOf p ≡ part p (destinationAt (optionsAt p) (flagsOf p)) (maxAt (optionsAt p) (flagsOf p) size)
+  pub destination-is : destinationOf p ≡ part p (destinationAt (optionsAt p) (flagsOf p)) (maxAt (optionsAt p) (flagsOf p) (destinationLength p))
   pub signature-is : signatureOf p
-      ≡ part p (signatureAt (optionsAt p) (flagsOf p) size) (signatureAt (optionsAt p) (flagsOf p) size + signatureSize p (optionsAt p) (optionsEnd p) (flagsOf p) size)
+      ≡ part p (signatureAt (optionsAt p) (flagsOf p) (destinationLength p))
+      (signatureAt (optionsAt p) (flagsOf p) (destinationLength p) + signatureSize p (optionsAt p) (optionsEnd p) (flagsOf p) (destinationLength p))
   pub payload-is : payloadOf p ≡ drop (optionsEnd p) p
 
-pub parts-are : (p : List ℕ) (r : Readable p) → PartsAre p (r .size)
-parts-are p r =
+-- where the read is not refused
+pub parts-are : (p : List ℕ) → readOf p .refusal ≡ 0 → PartsAre p
+parts-are p h =
+    let r = readable p h in
+    let long : destinationLength p ≡ r .size = ap (λ (s : Said). s .values .destination .len) (r .is) in
     let cut : (a n : ℕ) → n ≡ a + n - a = λ a n. omega arith in
     record {
       nacks-are = rw (r .is, ← cut 17 (4 * nackCount p));
-      destination-is = rw (r .is, ← cut (destinationAt (optionsAt p) (flagsOf p)) (r .size));
-      signature-is = rw (r .is, ← cut (signatureAt (optionsAt p) (flagsOf p) (r .size)) (signatureSize p (optionsAt p) (optionsEnd p) (flagsOf p) (r .size)));
+      destination-is = rw (long, r .is, ← cut (destinationAt (optionsAt p) (flagsOf p)) (r .size));
+      signature-is = rw (long, r .is, ← cut (signatureAt (optionsAt p) (flagsOf p) (r .size)) (signatureSize p (optionsAt p) (optionsEnd p) (flagsOf p) (r .size)));
       payload-is = rw (r .is) (take-all (length p - optionsEnd p) (drop (optionsEnd p) p) (simp length-drop (omega arith)));
     }
