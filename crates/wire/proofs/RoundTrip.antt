@@ -33,9 +33,11 @@ spelled-cut (suc k) x =
     rw (length-bytes k x, spelled-cut k x, pow-succ' 256 k)
     (sym (mod-eq-of-lt d) ∙ sym (mul-add-mod-self-right (q / 256) (256 * B) (q % 256 * B + x % B)) ∙ ap (λ (m : ℕ). m % (256 * B)) e)
 
+-- the bytes of a number that fits its width spell it
 pub spelled-bytes : (k x : ℕ) → x < 256 ^ k → spelled (bytesOf k x) ≡ x
 spelled-bytes k x h = spelled-cut k x ∙ mod-eq-of-lt h
 
+-- bytes spell a number that fits as many bytes
 pub spelled-small : (l : List ℕ) → all isByte l ≡ true → spelled l < 256 ^ length l
 spelled-small [] h = omega arith
 spelled-small (b ∷ l) h =
@@ -50,6 +52,7 @@ bytes-cut (suc k) c y =
     let d : (c * 256 * 256 ^ k + y) / 256 ^ k ≡ c * 256 + y / 256 ^ k = mul-add-div-right (power-some k) (c * 256) y in
     rw (e, d, mul-add-mod-self-right c 256 (y / 256 ^ k), bytes-cut k (c * 256) y)
 
+-- the number that bytes spell has those bytes
 pub bytes-spelled : (l : List ℕ) → all isByte l ≡ true → bytesOf (length l) (spelled l) ≡ l
 bytes-spelled [] h = refl
 bytes-spelled (b ∷ l) h =
@@ -98,9 +101,11 @@ length-numbers k (suc n) at p = ap suc (length-numbers k n (at + k) p)
 pub past : (at n to : ℕ) (p w r : List ℕ) → drop at p ≡ w ++ r → length w ≡ n → at + n ≡ to → drop to p ≡ r
 past at n to p w r e l t = rw (← t, ← drop-drop n at p, e) (drop-at w r n l)
 
+-- those bytes are the part of p there
 pub part-here : (at n : ℕ) (p w r : List ℕ) → drop at p ≡ w ++ r → length w ≡ n → take n (drop at p) ≡ w
 part-here at n p w r e l = rw e (take-at w r n l)
 
+-- and where they are a number's, the number is read
 pub number-here : (k x at : ℕ) (p r : List ℕ) → x < 256 ^ k → drop at p ≡ bytesOf k x ++ r → numberAt k at p ≡ x
 number-here k x at p r h e = rw (part-here at k p (bytesOf k x) r e (length-bytes k x)) (spelled-bytes k x h)
 
@@ -108,6 +113,7 @@ number-here k x at p r h e = rw (part-here at k p (bytesOf k x) r e (length-byte
 abbrev pub fits : ℕ → ℕ → Bool
 fits k x = ltb x (256 ^ k)
 
+-- the same of several numbers, one behind the other
 pub numbers-here : (k : ℕ) (xs : List ℕ) (at : ℕ) (p r : List ℕ) → all (fits k) xs ≡ true → drop at p ≡ bytesOfEach k xs ++ r
     → numbersAt k (length xs) at p ≡ xs
 numbers-here k [] at p r h e = refl
