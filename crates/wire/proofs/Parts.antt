@@ -8,9 +8,12 @@ use lib.ListN.{length, take, drop, length-append, length-take, length-drop, drop
 use lib.Seq.{take-all, take-at, drop-at, drop-drop, length-take-le}
 use Rattle.terms.specs.Lists.{_atFrontOf_}
 
--- the rest of a list from n on, as the code lends it
-pub the-rest : (n : ℕ) (out : List ℕ) → take (length out - n) (drop n out) ≡ drop n out
-the-rest n out = take-all (length out - n) (drop n out) (simp length-drop (omega arith))
+-- what a list holds when its rest, lent from an index on and written at the front, has come back
+pub rest-back : (l bytes after : List ℕ) (from : ℕ) → after ≡ bytes atFrontOf take (length l - from) (drop from l)
+    → take from l ++ (after ++ drop (length l - from) (drop from l)) ≡ take from l ++ (bytes atFrontOf drop from l)
+rest-back l bytes after from e =
+    let short : length (drop from l) ≤ length l - from = simp length-drop (omega arith) in
+    rw (e, take-all (length l - from) (drop from l) short, drop-of-length-le (drop from l) short, append-nil)
 
 -- out begins with what is written, w, and goes on as o did; b is written behind w
 pub then-put : (w b o out last : List ℕ) (n : ℕ) → out ≡ w atFrontOf o → length w ≡ n → n + length b ≤ length o
@@ -18,10 +21,7 @@ pub then-put : (w b o out last : List ℕ) (n : ℕ) → out ≡ w atFrontOf o �
 then-put w b o out last n e l h f =
     let front : take n out ≡ w = rw e (take-at w (drop (length w) o) n l) in
     let back : drop n out ≡ drop n o = rw (e, l) (drop-at w (drop n o) n l) in
-    let short : length (drop n out) ≤ length out - n = simp length-drop (omega arith) in
-    let none : drop (length out - n) (drop n out) ≡ [] = drop-of-length-le (drop n out) short in
-    let rest : last ≡ b ++ drop (n + length b) o = f ∙ rw (the-rest, back, drop-drop) in
-    rw (none, append-nil, front, rest, length-append, l) (sym (append-assoc w b (drop (n + length b) o)))
+    rest-back out b last n f ∙ rw (front, back, drop-drop, length-append, l) (sym (append-assoc w b (drop (n + length b) o)))
 
 -- out is o with the n bytes w at its front
 pub record Front (w o out : List ℕ) (n : ℕ) : Type 0 where

@@ -1,0 +1,91 @@
+-- The standing of a number, from where it lies and what its mark says; and the bytes of one slot when another is filled. Assumes nothing.
+use Prim.Native.Nat.{ℕ, _+_, _-_, _%_, _≤_, _<_, min}
+use mathlib.Core.Path.{_≡_, refl, sym, _∙_, ap}
+use mathlib.Core.List.{List, _++_}
+use native.Mathlib.Decide.{decLt}
+use native.Mathlib.Nat.{mul-le-mul-right}
+use native.Mathlib.Omega.{arith}
+use borrow.Author.Tests.{lt-ltb, le-ltb, eq-eqb, ne-eqb}
+use lib.ListN.{length, getD, take, drop, length-append, length-take, length-drop, List·getD-append}
+use lib.Seq.{ext-getD, getD-take, getD-drop, length-take-le, getD-append-add, take-at, drop-at}
+use Rattle.terms.specs.Lists.{part, _atFrontOf_}
+use Rattle.terms.proofs.Laws.{case}
+use Rattle.receiver.specs.Slots.{markOf, offsetOf, filled, heldBytes}
+use Rattle.receiver.specs.Meaning.{taken, held, missing, unseen, standing}
+use Rattle.receiver.specs.declared.Receiver.{Receiver}
+
+module _ (r : Receiver) (store : List ℕ) (n : ℕ) where
+  pub is-taken : n < r .next .0 → standing r store n ≡ taken
+  unfolding standing
+  is-taken a = simp (lt-ltb _ _ a)
+
+  module _ (a : r .next .0 ≤ n) where
+    pub is-unseen : r .highest .0 < n → standing r store n ≡ unseen
+    unfolding standing
+    is-unseen b = simp (le-ltb _ _ a, lt-ltb _ _ b)
+
+    module _ (b : n ≤ r .highest .0) where
+      pub is-missing : markOf (r .marks) n ≡ 0 → standing r store n ≡ missing
+      unfolding standing
+      is-missing z = simp (le-ltb _ _ a, le-ltb _ _ b, eq-eqb _ _ z)
+
+      pub is-held : (markOf (r .marks) n ≡ 0 → ⊥) → standing r store n ≡ held (heldBytes (r .marks) (r .slot) store n)
+      unfolding standing
+      is-held z = simp (le-ltb _ _ a, le-ltb _ _ b, ne-eqb _ _ z)
+
+-- two lists that agree from an index up to another have the same part there
+pub part-same : (l m : List ℕ) (from to : ℕ) → length l ≡ length m → ((k : ℕ) → from ≤ k → k < to → getD l k 0 ≡ getD m k 0) → part l from to ≡ part m from to
+part-same l m from to e f =
+    ext-getD 0 (part l from to) (part m from to)
+    (simp (length-take, length-drop, e))
+    (λ i h.
+    let m' : i < min (to - from) (length l - from) = simp (length-take, length-drop) at h in
+    let h' : i < to - from = omega arith in
+    getD-take (to - from) (drop from l) i 0 h' ∙ getD-drop from l i 0 ∙ f (from + i) (omega arith) (omega arith) ∙ sym (getD-take (to - from) (drop from m) i 0 h' ∙ getD-drop from m i 0))
+
+module _ (store : List ℕ) (slot number : ℕ) (payload : List ℕ) (fits : offsetOf slot number + length payload ≤ length store) where
+  pub filled-length : length (filled store slot number payload) ≡ length store
+  filled-length = simp (length-append, length-take, length-drop) (omega arith)
+
+  -- what was stored stands at the front of its slot
+  pub filled-here : part (filled store slot number payload) (offsetOf slot number) (offsetOf slot number + length payload) ≡ payload
+  filled-here =
+      let l : length (take (offsetOf slot number) store) ≡ offsetOf slot number = length-take-le (offsetOf slot number) store (omega arith) in
+      let e : offsetOf slot number + length payload - offsetOf slot number ≡ length payload = omega arith in
+      rw (e, drop-at (take (offsetOf slot number) store) (payload atFrontOf drop (offsetOf slot number) store) (offsetOf slot number) l)
+      (take-at payload (drop (length payload) (drop (offsetOf slot number) store)) (length payload) refl)
+
+  before : (k : ℕ) → k < offsetOf slot number → getD (filled store slot number payload) k 0 ≡ getD store k 0
+  before k h =
+      List·getD-append (take (offsetOf slot number) store) (payload atFrontOf drop (offsetOf slot number) store) 0 k
+      (omega (arith, length-take-le (offsetOf slot number) store (omega arith)))
+      ∙ getD-take (offsetOf slot number) store k 0 h
+
+  after : (k : ℕ) → offsetOf slot number + length payload ≤ k → getD (filled store slot number payload) k 0 ≡ getD store k 0
+  after k h =
+      let at = offsetOf slot number in
+      let front = take at store in
+      let back = drop (length payload) (drop at store) in
+      let j = k - (at + length payload) in
+      let l : length front ≡ at = length-take-le at store (omega arith) in
+      let e : k ≡ length front + (length payload + j) = omega (arith, l) in
+      let f : at + (length payload + j) ≡ k = omega arith in
+      ap (λ (i : ℕ). getD (front ++ (payload ++ back)) i 0) e
+      ∙ getD-append-add front (payload ++ back) (length payload + j) 0
+      ∙ getD-append-add payload back j 0
+      ∙ getD-drop (length payload) (drop at store) j 0
+      ∙ getD-drop at store (length payload + j) 0
+      ∙ ap (λ (i : ℕ). getD store i 0) f
+
+  -- every other slot is as it was
+  pub filled-other : (m size : ℕ) → size ≤ slot → length payload ≤ slot → (m % 512 ≡ number % 512 → ⊥)
+      → part (filled store slot number payload) (offsetOf slot m) (offsetOf slot m + size) ≡ part store (offsetOf slot m) (offsetOf slot m + size)
+  filled-other m size short small apart =
+      part-same (filled store slot number payload) store (offsetOf slot m) (offsetOf slot m + size) filled-length
+      (λ k a b.
+      case
+      (λ (q : m % 512 < number % 512). before k (omega (arith, mul-le-mul-right slot q)))
+      (λ (q : m % 512 < number % 512 → ⊥).
+      let q' : number % 512 + 1 ≤ m % 512 = omega (arith, apart) in
+      after k (omega (arith, mul-le-mul-right slot q')))
+      (decLt (m % 512) (number % 512)))

@@ -1,0 +1,7 @@
+pub mod Answers
+pub mod Slots
+pub mod Rules
+pub mod Start
+pub mod Accept
+pub mod Take
+pub mod Meaning
