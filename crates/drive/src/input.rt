@@ -1,7 +1,7 @@
 // The script: a window over standard input, filled anew when all of it is taken, so that a number costs no call of the system.
 // Every function takes the window and its marks. A record that is cut spoils the script: what is taken from there on is 0,
 // so that a call takes all its numbers first and asks `good` once.
-use super::part;
+use super::registers;
 use libc::STDIN_FILENO;
 ghost use Prim.Native.Nat.{_≤_};
 ghost use lib.ListN.{length};
@@ -187,6 +187,6 @@ pub fn buffer(window: &mut Window, marks: &mut Marks, into: &mut [u8]) -> usize 
         spoil(marks);
         return 0;
     }
-    part::fill(into, n, byte);
+    registers::fill(into, n, byte);
     n
 }

@@ -2,15 +2,15 @@
 // A call is a letter, a module of its own and one line of `call`; the registers that it keeps are lent by `main`.
 mod input;
 mod output;
-mod part;
 mod read;
+mod registers;
 mod write;
 
 use input::Marks;
 use input::Window;
 use output::Page;
-use part::Bytes;
-use part::Numbers;
+use registers::Bytes;
+use registers::Numbers;
 
 // One call, by its letter.
 fn call(

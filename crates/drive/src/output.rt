@@ -1,7 +1,7 @@
 // The answers: bytes collect in a page, which is written to standard output when it is full and at the end.
 // Every function takes the page and how much of it is used.
-use super::part;
 use libc::STDOUT_FILENO;
+use lines::part;
 ghost use Prim.Native.Nat.{_<_};
 
 const SIZE: usize = 65536;

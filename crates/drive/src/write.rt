@@ -4,9 +4,10 @@ use super::input::Marks;
 use super::input::Window;
 use super::output;
 use super::output::Page;
-use super::part;
-use super::part::Bytes;
-use super::part::Numbers;
+use super::registers;
+use super::registers::Bytes;
+use super::registers::Numbers;
+use lines::part;
 use terms::SeqNo;
 use terms::StreamId;
 use writer::Fields;
@@ -42,7 +43,7 @@ fn answer(
     }
     let answer = writer::write(
         fields,
-        part::front32(nacks, n),
+        registers::front32(nacks, n),
         part::front(destination, d),
         part::front(signature, s),
         part::front(payload, p),

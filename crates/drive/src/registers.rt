@@ -1,14 +1,10 @@
-// The registers that a script fills, and their fronts: the first n elements, none where there are fewer.
+// The registers that a script fills, with the front of the numbers: the first n, none where there are fewer.
 ghost use Prim.Native.Nat.{_≤_};
 ghost use lib.ListN.{length};
 
 pub type Bytes = [u8; 70000];
 
 pub type Numbers = [u32; 300];
-
-pub fn front(s: &[u8], n: usize) -> &[u8] {
-    if n <= s.len() { &s[..n] } else { &s[..0] }
-}
 
 pub fn front32(s: &[u32], n: usize) -> &[u32] {
     if n <= s.len() { &s[..n] } else { &s[..0] }

@@ -4,8 +4,8 @@ use mathlib.Core.Path.{_≡_}
 use native.Mathlib.Omega.{arith}
 use lib.ListN.{length, length-set}
 use borrow.Author.Needs.{needs}
-use Rattle.drive.proofs.part.fill.Statement.{statement}
-use Rattle.drive.proofs.part.fill.Tie as tie
+use Rattle.drive.proofs.registers.fill.Statement.{statement}
+use Rattle.drive.proofs.registers.fill.Tie as tie
 
 abbrev Inv-loop : tie.InvT-loop
 Inv-loop s₀ n byte i₀ s i = (i ≤ n) × (length s ≡ length s₀)
