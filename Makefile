@@ -17,3 +17,6 @@ compare:
 	@tools/build drive
 	@oracle/compare.sh read $(SEED) 100000
 	@oracle/compare.sh write $(SEED) 120000
+	@oracle/compare.sh receive $(SEED) 20000
+	@oracle/compare.sh 'receive slips'
+	@oracle/compare.sh timer $(SEED) 1000260

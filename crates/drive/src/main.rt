@@ -3,7 +3,9 @@
 mod input;
 mod output;
 mod read;
+mod receive;
 mod registers;
+mod timing;
 mod write;
 
 use input::Marks;
@@ -11,6 +13,9 @@ use input::Window;
 use output::Page;
 use registers::Bytes;
 use registers::Numbers;
+use registers::State;
+use registers::Store;
+use registers::Table;
 
 // One call, by its letter.
 fn call(
@@ -21,6 +26,9 @@ fn call(
     second: &mut Bytes,
     third: &mut Bytes,
     out: &mut Bytes,
+    state: &mut State,
+    table: &mut Table,
+    store: &mut Store,
     page: &mut Page,
     used: &mut usize,
 ) {
@@ -37,6 +45,12 @@ fn call(
             page,
             used,
         ),
+        b'x' => timing::sample(window, marks, page, used),
+        b'g' => timing::grown(window, marks, page, used),
+        b'f' => timing::fallen(window, marks, page, used),
+        b'S' => receive::start(window, marks, state, table, store, page, used),
+        b'a' => receive::accept(window, marks, state, table, store, first, page, used),
+        b't' => receive::take(window, marks, state, table, store, out, page, used),
         _ => input::spoil(marks),
     }
 }
@@ -50,6 +64,9 @@ fn step(
     second: &mut Bytes,
     third: &mut Bytes,
     out: &mut Bytes,
+    state: &mut State,
+    table: &mut Table,
+    store: &mut Store,
     page: &mut Page,
     used: &mut usize,
 ) -> bool {
@@ -64,6 +81,9 @@ fn step(
         second,
         third,
         out,
+        state,
+        table,
+        store,
         page,
         used,
     );
@@ -83,6 +103,9 @@ fn steps(
     second: &mut Bytes,
     third: &mut Bytes,
     out: &mut Bytes,
+    state: &mut State,
+    table: &mut Table,
+    store: &mut Store,
     page: &mut Page,
     used: &mut usize,
 ) {
@@ -96,6 +119,9 @@ fn steps(
             second,
             third,
             out,
+            state,
+            table,
+            store,
             page,
             used,
         )
@@ -112,6 +138,9 @@ fn main() {
     let mut second = [0u8; 70000];
     let mut third = [0u8; 70000];
     let mut out = [0u8; 70000];
+    let mut state = [0u32; 4];
+    let mut table = [0u16; 512];
+    let mut store = [0u8; 930000];
     let mut page = [0u8; 65536];
     let mut used: usize = 0;
     steps(
@@ -122,6 +151,9 @@ fn main() {
         &mut second,
         &mut third,
         &mut out,
+        &mut state,
+        &mut table,
+        &mut store,
         &mut page,
         &mut used,
     );

@@ -6,6 +6,13 @@ pub type Bytes = [u8; 70000];
 
 pub type Numbers = [u32; 300];
 
+// A receiver: its numbers with its store's length, its table, and its store.
+pub type State = [u32; 4];
+
+pub type Table = [u16; 512];
+
+pub type Store = [u8; 930000];
+
 pub fn front32(s: &[u32], n: usize) -> &[u32] {
     if n <= s.len() { &s[..n] } else { &s[..0] }
 }
