@@ -1,4 +1,4 @@
-// The registers that a script fills, with the front of the numbers: the first n, none where there are fewer.
+// The registers that a script fills.
 ghost use Prim.Native.Nat.{_≤_};
 ghost use lib.ListN.{length};
 
@@ -12,10 +12,6 @@ pub type State = [u32; 4];
 pub type Table = [u16; 512];
 
 pub type Store = [u8; 930000];
-
-pub fn front32(s: &[u32], n: usize) -> &[u32] {
-    if n <= s.len() { &s[..n] } else { &s[..0] }
-}
 
 // Makes the first n bytes all the same.
 pub fn fill(s: &mut [u8], n: usize, byte: u8)

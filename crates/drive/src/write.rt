@@ -4,7 +4,6 @@ use super::input::Marks;
 use super::input::Window;
 use super::output;
 use super::output::Page;
-use super::registers;
 use super::registers::Bytes;
 use super::registers::Numbers;
 use lines::part;
@@ -43,7 +42,7 @@ fn answer(
     }
     let answer = writer::write(
         fields,
-        registers::front32(nacks, n),
+        part::front32(nacks, n),
         part::front(destination, d),
         part::front(signature, s),
         part::front(payload, p),

@@ -1,4 +1,5 @@
 // Packets at every limit of document 01, made by hand: a line of limits.txt says the shape of each and what is expected of it.
+pub mod again;
 mod shape;
 
 use lines::line;
@@ -205,7 +206,20 @@ fn tell_read(bytes: &[u8], p: Packet, s: Shape) -> bool {
     }
     let payload = p.payload;
     say::named(b", payload", wide(payload.len));
-    true
+    tell_again(bytes, p)
+}
+
+// A packet without leftover option bytes, written again, is the same.
+fn tell_again(bytes: &[u8], p: Packet) -> bool {
+    if p.leftover != 0 {
+        return true;
+    }
+    if again::same(bytes, p) {
+        say::text(b", written again the same");
+        return true;
+    }
+    say::text(b", written again other");
+    false
 }
 
 // The parts of a refused packet are empty.

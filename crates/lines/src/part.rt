@@ -10,3 +10,8 @@ pub fn after(s: &[u8], at: usize) -> &[u8] {
 pub fn between(s: &[u8], at: usize, len: usize) -> &[u8] {
     front(after(s, at), len)
 }
+
+// The same of numbers.
+pub fn front32(s: &[u32], n: usize) -> &[u32] {
+    if n <= s.len() { &s[..n] } else { &s[..0] }
+}

@@ -1,4 +1,5 @@
 // The packets that i2pd made: each is read, and every field compared with what i2pd's accessors said of it.
+use limits::again;
 use lines::line;
 use lines::line::Values;
 use lines::part;
@@ -225,6 +226,18 @@ fn parts(at: u64, v: &Values, bytes: &[u8]) -> u64
     nacks + dest + sig + payload
 }
 
+// 0 where the packet, written again from its fields and parts, gives the same bytes.
+fn again_differs(at: u64, bytes: &[u8], p: Packet) -> u64
+    ensures { λ r. ⌜ r ≤ 1 ⌝ }
+{
+    if again::same(bytes, p) {
+        return 0;
+    }
+    say::named(b"WRONG: line", at);
+    say::text(b": written again, other bytes\n");
+    1
+}
+
 // How many things differ from what is expected of the line.
 fn wrongs(at: u64, v: &Values, bytes: &[u8], wanted: u64) -> u64 {
     match packet::read(bytes) {
@@ -233,7 +246,11 @@ fn wrongs(at: u64, v: &Values, bytes: &[u8], wanted: u64) -> u64 {
             if wanted != 0 {
                 return differs(at, b"refusal", wanted, 0);
             }
-            numbers(at, v, p) + places(at, v, p) + options(at, v, p) + parts(at, v, bytes)
+            numbers(at, v, p)
+                + places(at, v, p)
+                + options(at, v, p)
+                + parts(at, v, bytes)
+                + again_differs(at, bytes, p)
         }
     }
 }
@@ -307,7 +324,7 @@ fn tell(name: &[u8], answer: &[u8], lines: &Counts, right: &Counts, kind: usize)
 }
 
 fn tell_kinds(lines: &Counts, right: &Counts) {
-    let read = b"read as i2pd reads them\n";
+    let read = b"read as i2pd reads them, and written again the same\n";
     let refused4 = b"refused 4\n";
     tell(b"i2pd, no destination", read, lines, right, NO_DESTINATION);
     tell(b"i2pd, Ed25519 destination", read, lines, right, ED25519);

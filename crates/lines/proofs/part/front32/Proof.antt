@@ -2,8 +2,8 @@
 use native.Mathlib.Omega.{arith}
 use lib.ListN.{length-take}
 use borrow.Author.Needs.{needs}
-use Rattle.drive.proofs.registers.front32.Statement.{statement}
-use Rattle.drive.proofs.registers.front32.Tie as tie
+use Rattle.lines.proofs.part.front32.Statement.{statement}
+use Rattle.lines.proofs.part.front32.Tie as tie
 
 slice-aggregate-result : tie.Need-slice-aggregate-result
 slice-aggregate-result c = simp length-take (omega arith)
