@@ -1,15 +1,19 @@
 # Two commands for a newcomer: `make demo` and `make test`. Both need the Rattle toolchain (`rt`), `rustc` and `make`, and nothing else.
 SEED ?= 1
 
-.PHONY: demo test compare
+.PHONY: demo test links compare
 
 demo:
 	@tools/build demo
 	@tools/run demo
 
 # The tests, then the verdict. `rt ci` starts from nothing: its last line is 'N passed, 0 failed'.
-test: compare
+test: links compare
 	@rt ci
+
+# The index of promises leads to what it names.
+links:
+	@tools/links
 
 # Our program beside the Rust as given, on the same calls.
 compare:
