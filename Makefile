@@ -5,7 +5,7 @@ SEED ?= 1
 
 demo:
 	@tools/build demo
-	@tools/run demo
+	@tools/run demo <crates/demo/stdin
 
 # The tests, then the verdict. `rt ci` starts from nothing: its last line is 'N passed, 0 failed'.
 test: links compare
@@ -23,4 +23,5 @@ compare:
 	@oracle/compare.sh write $(SEED) 120000
 	@oracle/compare.sh receive $(SEED) 20000
 	@oracle/compare.sh 'receive slips'
+	@oracle/compare.sh ack $(SEED) 20000
 	@oracle/compare.sh timer $(SEED) 1000260

@@ -1,6 +1,7 @@
 //! The given Rust beside our program; NOTES.md says how the comparison works.
 extern crate alloc;
 
+mod ack;
 mod common;
 mod read;
 mod receive;
@@ -42,6 +43,7 @@ fn main() -> ExitCode {
                 "write" => run::<write::Case>(topic, action, seed, count),
                 "receive" => run::<receive::Sequence>(topic, action, seed, count),
                 "timer" => run::<timer::Case>(topic, action, seed, count),
+                "ack" => run::<ack::Acks>(topic, action, seed, count),
                 _ => return usage(),
             }
         }
@@ -55,7 +57,7 @@ fn main() -> ExitCode {
 }
 
 fn usage() -> ExitCode {
-    eprintln!("usage: oracle read|write|receive|timer gen|check SEED COUNT\n       oracle receive slips gen|check\n       oracle stream show");
+    eprintln!("usage: oracle read|write|receive|timer|ack gen|check SEED COUNT\n       oracle receive slips gen|check\n       oracle stream show");
     ExitCode::from(2)
 }
 

@@ -51,6 +51,7 @@ fn call(
         b'S' => receive::start(window, marks, state, table, store, page, used),
         b'a' => receive::accept(window, marks, state, table, store, first, page, used),
         b't' => receive::take(window, marks, state, table, store, out, page, used),
+        b'k' => receive::acknowledge(window, marks, state, table, out, page, used),
         _ => input::spoil(marks),
     }
 }

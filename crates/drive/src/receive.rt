@@ -1,4 +1,4 @@
-// The calls 'S', 'a' and 't': a receiver is started, and packets are accepted and taken. Its state and store stand in registers
+// The calls 'S', 'a', 't' and 'k': a receiver is started, packets are accepted, taken and acknowledged. Its state and store stand in registers
 // and go from call to call.
 use super::input;
 use super::input::Marks;
@@ -9,6 +9,7 @@ use super::registers::Bytes;
 use super::registers::State;
 use super::registers::Store;
 use super::registers::Table;
+use ack::Acknowledged;
 use lines::part;
 use receiver::Accepted;
 use receiver::Answer;
@@ -16,6 +17,7 @@ use receiver::Given;
 use receiver::Receiver;
 use receiver::Taken;
 use terms::SeqNo;
+use terms::StreamId;
 ghost use Prim.Native.Nat.{_≤_, _<_};
 
 // The state's numbers in their register: slot size, next, highest, and the store's length.
@@ -245,5 +247,48 @@ pub fn take(
     let room = input::buffer(window, marks, out);
     if input::good(marks) {
         taken(page, used, numbers, table, store, out, room);
+    }
+}
+
+fn acknowledged(page: &mut Page, used: &mut usize, answer: Acknowledged) {
+    output::word(page, used, b"ack");
+    match answer {
+        Acknowledged::Written(n) => {
+            output::number(page, used, 0);
+            output::size(page, used, n);
+        }
+        Acknowledged::Refused(r) => {
+            output::number32(page, used, r.number());
+            output::number(page, used, 0);
+        }
+    }
+}
+
+// acknowledge, with the front of the register as the output.
+fn ack_to(out: &mut [u8], n: usize, r: Receiver, send: StreamId, recv: StreamId) -> Acknowledged {
+    if n > out.len() {
+        return ack::acknowledge(r, send, recv, out);
+    }
+    ack::acknowledge(r, send, recv, &mut out[..n])
+}
+
+pub fn acknowledge(
+    window: &mut Window,
+    marks: &mut Marks,
+    numbers: &mut State,
+    table: &mut Table,
+    out: &mut Bytes,
+    page: &mut Page,
+    used: &mut usize,
+) {
+    let send = StreamId(input::number4(window, marks));
+    let recv = StreamId(input::number4(window, marks));
+    let room = input::buffer(window, marks, out);
+    if input::good(marks) {
+        let r = state(numbers, table);
+        let answer = ack_to(out, room, r, send, recv);
+        acknowledged(page, used, answer);
+        output::sum(page, used, part::front(out, room));
+        output::end(page, used);
     }
 }

@@ -1,0 +1,99 @@
+//! The plain ack that `poll` sends, for receivers that accepted any numbers of a span, none taken: inside document 01's
+//! domain, at most 255 missing, byte for byte; above it the slip that document 01 lists.
+//!
+//! Script: 'S' and 'a' as in receive.rs, then 'k' acknowledge: both stream ids (32 bits each), output length (32), the byte
+//! that fills it. Answer: `ack CODE LENGTH OUT_SUM`.
+use crate::{
+    active::Rig,
+    common::{checksum, Answer, Case, Random, Script, Verdict},
+    packet::{Packet, PacketBuilder},
+    receive::Call,
+    runtime::Bench,
+};
+
+const MISSING: &str = "more than 255 missing";
+const OUTPUT: &str = "output too short";
+/// The most NACKs, and the delay that asks the other side to stop.
+const MOST: usize = 255;
+const CHOKING: u16 = 60_001;
+
+pub struct Acks {
+    s: u32,
+    /// How far above s each accepted number is, ascending.
+    accepted: Vec<u32>,
+    ids: [u32; 2],
+    output: usize,
+    fill: u8,
+}
+
+impl Case for Acks {
+    const LISTED: &'static [&'static str] = &[MISSING, OUTPUT];
+
+    fn make(seed: u64, index: usize) -> Self {
+        let mut random = Random::of(seed, index);
+        // Document 01's own numbers first.
+        let limits: [&[u32]; 8] = [&[], &[1, 2, 5], &[2, 3], &[255], &[256], &[257], &[511], &[512]];
+        if let Some(accepted) = limits.get(index) {
+            let ids = [0x0102_0304, 0x0a0b_0c0d];
+            return Self { s: 0, accepted: accepted.to_vec(), ids, output: 1_044, fill: 0 };
+        }
+        let highest = random.from_to(0, 512) as u32;
+        let dense = random.from_to(1, 12);
+        let accepted = (1..=highest).filter(|number| *number == highest || random.below(12) >= dense).collect();
+        let output = if random.one_in(8) { random.below(1_044) } else { random.from_to(1_044, 1_100) };
+        let s = random.word().min(4_294_967_294 - 512);
+        Self { s, accepted, ids: [random.word(), random.word()], output, fill: random.byte() }
+    }
+
+    fn script(&self) -> Vec<u8> {
+        let start = Call::Start { s: self.s, slot: 1, fill: 0 }.script();
+        let accepts = self.accepted.iter().flat_map(|above| {
+            Call::Accept { number: self.s + above, payload: vec![0] }.script()
+        });
+        let ack = Script::default().u8(b'k').u32(self.ids[0]).u32(self.ids[1]).u32(self.output as u32).u8(self.fill);
+        start.into_iter().chain(accepts).chain(ack.0).collect()
+    }
+
+    fn answers(&self) -> usize {
+        self.accepted.len() + 2
+    }
+
+    fn compare(&self, ours: &[Answer]) -> Vec<Verdict> {
+        Bench::set_clock(0);
+        let mut rig = Rig::new(self.ids, self.s, 1, 1);
+        for above in &self.accepted {
+            rig.accept(self.s + above, &[0]).expect("inside the lookahead");
+        }
+        if let Some(refused) = ours[..ours.len() - 1].iter().find(|answer| answer.numbers.first() != Some(&0)) {
+            return vec![Verdict::Unlisted(format!("refused before the ack: `{refused}`"))];
+        }
+        let missing = rig.missing();
+        let rust = rig.plain_ack();
+        let (packet, mut listed) = if missing.len() <= MOST { (rust, None) } else { (self.mended(&missing, &rust), Some(MISSING)) };
+        let mut output = vec![self.fill; self.output];
+        let expected = if packet.len() > output.len() {
+            listed = Some(OUTPUT);
+            [7, 0, checksum(&output)]
+        } else {
+            output[..packet.len()].copy_from_slice(&packet);
+            [0, packet.len() as u64, checksum(&output)]
+        };
+        vec![Verdict::of(&ours[ours.len() - 1], &Answer::new("ack", &expected), listed)]
+    }
+}
+
+impl Acks {
+    /// Document 01's ack where the Rust's claims what is missing, which is looked at too.
+    fn mended(&self, missing: &[u32], rust: &[u8]) -> Vec<u8> {
+        let claimed = Packet::parse::<Bench>(rust).expect("the Rust's own packet");
+        let highest = self.s + self.accepted.last().expect("something is missing below it");
+        assert!(claimed.ack_through == highest && claimed.nacks == missing[..MOST], "the slip is another one");
+        PacketBuilder::new(self.ids[1])
+            .with_send_stream_id(self.ids[0])
+            .with_ack_through(missing[MOST] - 1)
+            .with_nacks(missing[..MOST].to_vec())
+            .with_delay_requested(CHOKING)
+            .build()
+            .to_vec()
+    }
+}
