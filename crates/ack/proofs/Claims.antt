@@ -1,24 +1,23 @@
 -- What the ack fields of a receiver claim, told by the standing of each number. None of it asks that the state keeps the rules.
 -- Assumes nothing.
 use Prim.Native.Nat.{ℕ, _-_, _≤_, _<_}
-use mathlib.Core.Path.{_≡_, refl, sym, _∙_, ap}
-use mathlib.Core.Bool.{Bool, true, false, _&&_, not}
+use mathlib.Core.Path.{_≡_, sym, _∙_, ap}
+use mathlib.Core.Bool.{true, not}
 use mathlib.Core.List.{List}
 use native.Mathlib.Decide.{decLe}
 use native.Mathlib.Omega.{arith}
 use borrow.Author.Tests.{le-leb, lt-leb, eq-eqb, ne-eqb}
-use lib.Dec.{leb}
-use lib.ListN.{length, getD, take}
+use lib.ListN.{length}
 use Rattle.terms.specs.Lists.{all}
 use Rattle.terms.proofs.Laws.{case}
 use Rattle.wire.proofs.RoundTrip.{all-take}
 use Rattle.receiver.specs.Slots.{markOf}
-use Rattle.receiver.specs.Meaning.{taken, held, missing, unseen, standing, isMissing}
+use Rattle.receiver.specs.Meaning.{standing, isMissing}
 use Rattle.receiver.specs.declared.Receiver.{Receiver}
 use Rattle.receiver.proofs.Laws.{where-is}
 use Rattle.receiver.proofs.Standings.{is-taken, is-missing, is-held}
-use Rattle.ack.specs.Missing.{missingFrom, missingOf, isAmong, ascending, isReceived}
-use Rattle.ack.specs.Fields.{fieldsFrom, nacksFrom, ackFieldsOf, ackNacksOf, ackThroughOf}
+use Rattle.ack.specs.Missing.{missingOf, isAmong, ascending, isReceived}
+use Rattle.ack.specs.Fields.{fieldsFrom, nacksFrom, ackNacksOf, ackThroughOf}
 use Rattle.ack.proofs.Among.{all-among, missing-among, missing-at, missing-ascending, ascending-take, among-first, climbs}
 
 module _ (r : Receiver) where

@@ -1,9 +1,9 @@
 -- The plain acknowledgement, told by its answer and by the packet as our reader reads it: what a run of calls is reasoned with, in place
 -- of the definitions' text. Assumes nothing.
-use Prim.Native.Nat.{ℕ, _+_, _*_, _^_, _≤_, _<_}
+use Prim.Native.Nat.{ℕ, _^_, _≤_, _<_}
 use mathlib.Core.Path.{_≡_, refl, sym, _∙_, ap}
 use mathlib.Core.Bool.{Bool, true, false, _&&_, not}
-use mathlib.Core.List.{List, [], _∷_, _++_}
+use mathlib.Core.List.{List, [], _∷_}
 use native.Mathlib.Omega.{arith}
 use borrow.Author.Tests.{le-ltb, lt-ltb, leb-true, ltb-true, ltb-false, not-false}
 use lib.Dec.{leb, ltb}
@@ -13,22 +13,22 @@ use Rattle.terms.specs.declared.StreamId.{StreamId}
 use Rattle.terms.specs.Ladder.{_when_else_}
 use Rattle.terms.specs.Lists.{all, _atFrontOf_}
 use Rattle.terms.proofs.Laws.{rung, and-left, and-right}
-use Rattle.wire.specs.BigEndian.{bytesOf, bytesOfEach, numbersAt}
+use Rattle.wire.specs.BigEndian.{numbersAt}
 use Rattle.wire.proofs.RoundTrip.{fits, number-here}
 use Rattle.packet.specs.Reading.{answered, nackCount, readOf, destinationOf, signatureOf, payloadOf}
 use Rattle.writer.specs.Writing.{packetBytes, headParts, optionParts, writeOf}
 use Rattle.writer.specs.declared.Fields.{Fields}
 use Rattle.writer.proofs.Joins.{behind, optionsLength, packet-behind}
-use Rattle.writer.proofs.ReadsBack.{Ranged, ReadBack, given, reads-back}
+use Rattle.writer.proofs.ReadsBack.{Ranged, given, reads-back}
 use Rattle.receiver.specs.Answers.{Said, refusal, values}
 use Rattle.receiver.specs.Slots.{isFree, markOf}
-use Rattle.receiver.specs.Rules.{rules, rulesOf, slotFits, sizesFit}
-use Rattle.receiver.specs.Meaning.{standing, isMissing, Sound}
+use Rattle.receiver.specs.Rules.{rulesOf, slotFits}
+use Rattle.receiver.specs.Meaning.{standing, isMissing}
 use Rattle.receiver.specs.declared.Receiver.{Receiver}
 use Rattle.receiver.proofs.Facts.{ruled}
 use Rattle.receiver.proofs.Outcomes.{past}
 use Rattle.ack.specs.Missing.{missingFrom, isAmong, isReceived}
-use Rattle.ack.specs.Fields.{atLeast255, fieldsFrom, nacksFrom, ackFieldsOf, ackNacksOf, ackThroughOf}
+use Rattle.ack.specs.Fields.{atLeast255, fieldsFrom, ackFieldsOf, ackNacksOf, ackThroughOf}
 use Rattle.ack.specs.Acknowledge.{plainFields, plainAck, plainAckOf, acknowledgeSaid, acknowledges, acknowledgeOf}
 use Rattle.ack.proofs.Among.{all-implies}
 use Rattle.ack.proofs.Ways.{nacks-few, ack-most, ack-written}

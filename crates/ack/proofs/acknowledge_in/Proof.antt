@@ -2,7 +2,6 @@
 use mathlib.Core.Path.{_≡_, sym, _∙_}
 use mathlib.Core.Bool.{true}
 use borrow.Author.Tests.{not-true, not-false}
-use native.Mathlib.Omega.{arith}
 use denote.Ref.{now}
 use Rattle.receiver.specs.Rules.{rules, slotFits}
 use Rattle.receiver.proofs.Facts.{ruled}

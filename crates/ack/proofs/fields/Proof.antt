@@ -1,7 +1,6 @@
 -- `ack::fields` meets its contract: the count of the missing numbers decides, and the 256th of them stands at index 255. Assumes nothing.
-use mathlib.Core.Path.{_≡_}
-use denote.Ref.{now}
 use native.Mathlib.Omega.{arith}
+use denote.Ref.{now}
 use Rattle.ack.proofs.Ways.{fields-few, fields-full, some-256th, fields-more}
 use borrow.Author.Needs.{needs}
 use Rattle.ack.proofs.fields.Statement.{statement}
@@ -14,13 +13,15 @@ returns : tie.Need-returns
 returns c =
     let l = c .before in
     let a = l .before .before .before .args in
-    (fields-few (a .next) (a .highest) (now (a .marks)) (l .list-missing .result) (l .list-missing .ensures .0) (c .if1 .taken), l .list-missing .ensures .1)
+    let d = l .list-missing .ensures in
+    (fields-few (a .next) (a .highest) (now (a .marks)) (l .list-missing .result) (d .0) (omega arith), d .1)
 
 returns-2 : tie.Need-returns-2
 returns-2 c =
     let l = c .before .before in
     let a = l .before .before .before .args in
-    (fields-full (a .next) (a .highest) (now (a .marks)) (l .list-missing .result) (l .list-missing .ensures .0) (c .if2 .taken), l .list-missing .ensures .1)
+    let d = l .list-missing .ensures in
+    (fields-full (a .next) (a .highest) (now (a .marks)) (l .list-missing .result) (d .0) (omega arith), d .1)
 
 element-copy-out-t12 : tie.Need-element-copy-out-t12
 element-copy-out-t12 c = search needs
@@ -29,13 +30,15 @@ sub-t13 : tie.Need-sub-t13
 sub-t13 c =
     let l = c .before .before .before in
     let a = l .before .before .before .args in
-    some-256th (a .next) (a .highest) (now (a .marks)) (l .list-missing .result) (l .list-missing .ensures .0) (now (a .missing)) _ (l .list-missing .ensures .1) (omega (arith, c .before .if2 .left, c .before .before .if1 .left))
+    let d = l .list-missing .ensures in
+    some-256th (a .next) (a .highest) (now (a .marks)) (l .list-missing .result) (d .0) (now (a .missing)) _ (d .1) (omega (arith, c .before .if2 .left))
 
 returns-3 : tie.Need-returns-3
 returns-3 c =
     let l = c .before .before .before in
     let a = l .before .before .before .args in
-    (fields-more (a .next) (a .highest) (now (a .marks)) (l .list-missing .result) (l .list-missing .ensures .0) (now (a .missing)) _ (l .list-missing .ensures .1) (omega (arith, c .before .if2 .left, c .before .before .if1 .left)), l .list-missing .ensures .1)
+    let d = l .list-missing .ensures in
+    (fields-more (a .next) (a .highest) (now (a .marks)) (l .list-missing .result) (d .0) (now (a .missing)) _ (d .1) (omega (arith, c .before .if2 .left)), d .1)
 
 pub fields-spec : {M : Type 1} → statement M
 fields-spec = tie.close (tie.spec list-missing-requires returns returns-2 element-copy-out-t12 sub-t13 returns-3)

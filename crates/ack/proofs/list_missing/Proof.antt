@@ -1,11 +1,9 @@
 -- `ack::list_missing` meets its contract: after the numbers below number, those of them that are missing stand at the table's front. Assumes nothing.
-use Prim.Native.Nat.{_+_, _-_, _≤_, _%_}
-use mathlib.Core.Path.{_≡_, refl}
+use Prim.Native.Nat.{_+_, _-_}
 use mathlib.Core.Logic.{⊎-elim}
 use native.Mathlib.Omega.{arith}
 use borrow.Author.Needs.{needs}
 use borrow.Author.Tests.{eq-eqb, ne-eqb}
-use lib.ListN.{length}
 use denote.Ref.{now}
 use Rattle.ack.specs.Missing.{notHeld}
 use Rattle.ack.proofs.Listed.{Listed, list-start, list-found, list-passed, list-end}
