@@ -4,7 +4,7 @@ use mathlib.Core.Path.{_≡_, refl, sym, _∙_, ap}
 use mathlib.Core.Bool.{Bool}
 use mathlib.Core.List.{List}
 use native.Mathlib.Omega.{arith}
-use Rattle.terms.specs.Refusals.{numberOf}
+use Rattle.terms.specs.Ladder.{_when_else_}
 use Rattle.terms.proofs.Numbers.{number-one, number-some}
 use Rattle.terms.proofs.Determined.{determined}
 use Rattle.packet.specs.Destination.{isDestination}
@@ -43,3 +43,7 @@ signature-determined packet a b p q = determined p q
 
 pub payload-determined : (packet a b : List ℕ) → a ≡ payloadOf packet → b ≡ payloadOf packet → a ≡ b
 payload-determined packet a b p q = determined p q
+
+-- of the layer below, the one that asks nothing
+pub size-if-determined : (there : Bool) (size a b : ℕ) → a ≡ (size when there else 0) → b ≡ (size when there else 0) → a ≡ b
+size-if-determined there size a b p q = determined p q

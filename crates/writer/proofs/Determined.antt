@@ -6,7 +6,7 @@ use native.Mathlib.Omega.{arith}
 use lib.ListN.{length}
 use Rattle.terms.proofs.Numbers.{number-one, number-some}
 use Rattle.terms.proofs.Determined.{determined}
-use Rattle.writer.specs.Writing.{Said, said, writeOf, outputAfter}
+use Rattle.writer.specs.Writing.{Said, said, judgeOf, writeOf, outputAfter}
 use Rattle.writer.specs.declared.Fields.{Fields}
 use Rattle.writer.specs.declared.Writing.{Writing}
 use Rattle.writer.specs.declared.Writing.the-variants as W
@@ -24,6 +24,10 @@ said-one (W.Refused q) (W.Refused r) e = ap W.Refused (number-one q r (ap refusa
 said-one (W.Refused q) (W.Written m j) e = absurd (omega (arith, number-some q, ap refusal-of e))
 said-one (W.Written n i) (W.Refused r) e = absurd (omega (arith, number-some r, ap refusal-of e))
 said-one (W.Written n i) (W.Written m j) e = let l = ap length-of e in let p = ap place-of e in cc
+
+pub judge-determined : (f : Fields) (nacks : ℕ) (destination : List ℕ) (signature payload room : ℕ) (a b : Writing)
+    → said a ≡ judgeOf f nacks destination signature payload room → said b ≡ judgeOf f nacks destination signature payload room → a ≡ b
+judge-determined f nacks destination signature payload room a b p q = said-one a b (determined p q)
 
 module _ (f : Fields) (nacks destination signature payload output : List ℕ) where
   pub write-determined : (a b : Writing) (x y : List ℕ)
