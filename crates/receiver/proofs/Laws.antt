@@ -1,6 +1,6 @@
 -- Start, accept and take told by the standing of each number: what a run of calls is reasoned with, in place of the definitions' text.
 -- Assumes nothing.
-use Prim.Native.Nat.{ℕ, _+_, _-_, _%_, _≤_, _<_, max}
+use Prim.Native.Nat.{ℕ, _+_, _-_, _*_, _%_, _≤_, _<_, max}
 use mathlib.Core.Path.{_≡_, refl, sym, _∙_, ap, subst}
 use mathlib.Core.Bool.{Bool, true, false, _&&_, not}
 use mathlib.Core.List.{List, [], _∷_}
@@ -16,7 +16,7 @@ use Rattle.terms.specs.Lists.{_atFrontOf_}
 use Rattle.terms.proofs.Laws.{case, and-left, and-right}
 use Rattle.receiver.specs.Answers.{Said, refusal, values}
 use Rattle.receiver.specs.Slots.{isFree, isHeld, lengthOf, markOf, offsetOf, filled, heldBytes}
-use Rattle.receiver.specs.Rules.{rules, rulesOf, sizesFit}
+use Rattle.receiver.specs.Rules.{rules, rulesOf, slotFits, sizesFit}
 use Rattle.receiver.specs.Start.{startSaid, startOf, fresh, unusable}
 use Rattle.receiver.specs.Accept.{acceptSaid, accepts, acceptOf}
 use Rattle.receiver.specs.Take.{takeSaid, takes, takeOf}
@@ -439,3 +439,32 @@ module _ (r : Receiver) (store output : List ℕ) where
       (rw (sound .keeps, sound .fits)
       (rung 17 (isFree (markOf (r .marks) (r .next .0))) _ (λ e. omega arith) (λ e. omega arith)
       (rung 7 (ltb (length output) (lengthOf (markOf (r .marks) (r .next .0)))) _ (λ e. omega arith) (λ e. omega arith) tt))))
+
+-- WHAT RUNS ARE COUNTED BY
+
+-- a start's slot size, next to take and highest
+module _ (s : SeqNo) (slot : ℕ) (store : List ℕ) (done : startOf s slot (length store) .says ≡ values []) where
+  pub start-slot : startOf s slot (length store) .state .slot ≡ slot
+  start-slot = ap (λ (x : Receiver). x .slot) (start-done s slot store done)
+
+  pub start-next : startOf s slot (length store) .state .next .0 ≡ s .0 + 1
+  start-next = ap (λ (x : Receiver). x .next .0) (start-done s slot store done)
+
+  pub start-highest : startOf s slot (length store) .state .highest .0 ≡ s .0
+  start-highest = ap (λ (x : Receiver). x .highest .0) (start-done s slot store done)
+
+-- neither accept nor take changes the slot size
+pub accept-slot : (r : Receiver) (number : SeqNo) (payload store : List ℕ) → acceptOf r number payload store .state .slot ≡ r .slot
+accept-slot r number payload store = refl
+
+pub take-slot : (r : Receiver) (store output : List ℕ) → takeOf r store output .state .slot ≡ r .slot
+take-slot r store output = refl
+
+-- it is in range,
+pub slot-fits : (r : Receiver) (store : List ℕ) → Sound r store → slotFits (r .slot) ≡ true
+unfolding sizesFit
+slot-fits r store sound = and-left (slotFits (r .slot)) (eqb (length store) (512 * r .slot)) (sound .fits)
+
+-- and it tells the store's length
+pub store-length : (r : Receiver) (store : List ℕ) → Sound r store → length store ≡ 512 * r .slot
+store-length r store sound = sized (r .slot) (length store) (sound .fits) .store

@@ -1,0 +1,8 @@
+-- Lists of pieces (Pieces), what is known at each point of a run (Known), that every call keeps it (Steps), what that says of where each number is
+-- (Places) and of an acknowledgement (Claims), and demand 3 as one theorem (Delivery).
+pub mod Pieces
+pub mod Known
+pub mod Steps
+pub mod Places
+pub mod Claims
+pub mod Delivery
