@@ -3,6 +3,7 @@ extern crate alloc;
 
 mod ack;
 mod common;
+mod lamps;
 mod read;
 mod receive;
 mod samples;
@@ -32,6 +33,10 @@ fn main() -> ExitCode {
     let passed = match words[..] {
         ["receive", "slips", "gen"] => stdout().write_all(&slips::script()).is_ok(),
         ["receive", "slips", "check"] => slips::check(),
+        ["lamps"] => {
+            lamps::show();
+            true
+        }
         ["stream", "show"] => {
             show::show();
             true
@@ -57,7 +62,7 @@ fn main() -> ExitCode {
 }
 
 fn usage() -> ExitCode {
-    eprintln!("usage: oracle read|write|receive|timer|ack gen|check SEED COUNT\n       oracle receive slips gen|check\n       oracle stream show");
+    eprintln!("usage: oracle read|write|receive|timer|ack gen|check SEED COUNT\n       oracle receive slips gen|check\n       oracle stream show\n       oracle lamps");
     ExitCode::from(2)
 }
 

@@ -25,9 +25,16 @@ impl Inbound {
     pub fn missing(&self) -> usize {
         self.0.missing.len()
     }
+    pub fn first_missing(&self) -> Option<u32> {
+        self.0.missing.first().copied()
+    }
     /// How many payloads wait behind a gap.
     pub fn kept(&self) -> usize {
         self.0.pending.len()
+    }
+    /// Whether a payload waits under this number.
+    pub fn keeps(&self, number: u32) -> bool {
+        self.0.pending.contains_key(&number)
     }
 }
 
