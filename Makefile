@@ -3,9 +3,14 @@ SEED ?= 1
 
 .PHONY: demo test links compare
 
+# The story of the lamps: the same packets, given to our receiver and to the Rust's.
 demo:
-	@tools/build demo
-	@tools/run demo <crates/demo/stdin
+	@tools/build lamps
+	@oracle/build.sh
+	@echo '== Our receiver, proved =='
+	@tools/run lamps
+	@echo '== The Rust as given, the same packets =='
+	@target/oracle/oracle lamps
 
 # The tests, then the verdict. `rt ci` starts from nothing: its last line is 'N passed, 0 failed'.
 test: links compare
