@@ -1,12 +1,12 @@
 -- The plain acknowledgement, told by its answer and by the packet as our reader reads it: what a run of calls is reasoned with, in place
 -- of the definitions' text. Assumes nothing.
-use Prim.Native.Nat.{ℕ, _^_, _≤_, _<_}
+use Prim.Native.Nat.{ℕ, _*_, _^_, _≤_, _<_}
 use mathlib.Core.Path.{_≡_, refl, sym, _∙_, ap}
 use mathlib.Core.Bool.{Bool, true, false, _&&_, not}
 use mathlib.Core.List.{List, [], _∷_}
 use native.Mathlib.Omega.{arith}
 use borrow.Author.Tests.{le-ltb, lt-ltb, leb-true, ltb-true, ltb-false, not-false}
-use lib.Dec.{leb, ltb}
+use lib.Dec.{leb, ltb, eqb}
 use lib.ListN.{length, take, drop}
 use lib.Seq.{take-at}
 use Rattle.terms.specs.declared.StreamId.{StreamId}
@@ -22,8 +22,8 @@ use Rattle.writer.proofs.Joins.{behind, optionsLength, packet-behind}
 use Rattle.writer.proofs.ReadsBack.{Ranged, given, reads-back}
 use Rattle.receiver.specs.Answers.{Said, refusal, values}
 use Rattle.receiver.specs.Slots.{isFree, markOf}
-use Rattle.receiver.specs.Rules.{rulesOf, slotFits}
-use Rattle.receiver.specs.Meaning.{standing, isMissing}
+use Rattle.receiver.specs.Rules.{rulesOf, slotFits, sizesFit}
+use Rattle.receiver.specs.Meaning.{standing, isMissing, Sound}
 use Rattle.receiver.specs.declared.Receiver.{Receiver}
 use Rattle.receiver.proofs.Facts.{ruled}
 use Rattle.receiver.proofs.Outcomes.{past}
@@ -159,6 +159,12 @@ module _ (r : Receiver) (send recv : StreamId) where
     pub acknowledge-fair : rulesOf r ≡ true → slotFits (r .slot) ≡ true → (n : ℕ) → acknowledgeOf r send recv output .says ≡ refusal n → n ≡ 7
     acknowledge-fair e f n h =
         only-7 (ltb (length output) (length (plainAckOf r send recv))) (length (plainAckOf r send recv)) n (sym (acknowledge-by-room e f) ∙ h)
+
+    -- so of a state and a store that belong together
+    pub acknowledge-sound : (store : List ℕ) → Sound r store → (n : ℕ) → acknowledgeOf r send recv output .says ≡ refusal n → n ≡ 7
+    unfolding sizesFit
+    acknowledge-sound store sound n h =
+        acknowledge-fair (sound .keeps) (and-left (slotFits (r .slot)) (eqb (length store) (512 * r .slot)) (sound .fits)) n h
 
     -- An output of 1,044 bytes is always enough: the ack is written unless the state is at fault, and is never refused with 7.
     pub acknowledge-enough : rulesOf r ≡ true → slotFits (r .slot) ≡ true → 1044 ≤ length output

@@ -60,7 +60,9 @@ fn list_missing(next: u32, highest: u32, marks: &[u16], missing: &mut [u32; 512]
     count
 }
 
-// The ack fields of a receiver, for the plain ack and for data packets. Its state keeps the rules, as `receiver::rules_hold` tells.
+// The ack fields of a receiver, for the plain ack and for data packets: ports what both of them take from `InboundContext`. All missing
+// numbers are written to the front of the lent table, and the NACKs are the first of them. The state keeps the rules, as
+// `receiver::rules_hold` tells.
 pub fn fields(next: u32, highest: u32, marks: &[u16], missing: &mut [u32; 512]) -> AckFields
     requires { ⌜ (length (now marks) ≡ 512) × (length (now missing) ≡ 512) × (highest ≤ next + 511) × (highest ≤ 4294967294) ⌝ }
     ensures { λ r. ⌜ r ≡ fieldsFrom next highest (now (marks .entry)) ⌝ }
@@ -84,7 +86,7 @@ pub fn fields(next: u32, highest: u32, marks: &[u16], missing: &mut [u32; 512]) 
             delay: CHOKING_REQUEST,
         };
     }
-    let through = SeqNo(missing[255] - 1);
+    let through = SeqNo(missing[MAX_NACKS] - 1);
     AckFields {
         nacks: MAX_NACKS,
         ack_through: through,
@@ -128,7 +130,8 @@ fn plain(
     }
 }
 
-// acknowledge, over the state's numbers and its table lent.
+// acknowledge, over the state's numbers and its table lent: the one body behind the call by value and those that hold the state in
+// place.
 pub fn acknowledge_in(
     slot: u32,
     next: u32,
@@ -151,8 +154,8 @@ pub fn acknowledge_in(
 }
 
 // Writes the plain ack of a receiver to the front of the output: both stream ids in wire order, sequence 0, resend delay 0, the ack
-// fields, and no payload. Ports the plain ack of `poll`. Refusals in document 01's order: 11, 10, 7. An output of 1,044 bytes is
-// always enough.
+// fields, and no payload. Ports the plain ack of `poll`, without its closing form. Refusals in document 01's order: 11, 10, 7. An
+// output of 1,044 bytes is always enough.
 pub fn acknowledge(r: Receiver, send: StreamId, recv: StreamId, output: &mut [u8]) -> Acknowledged
     ensures { λ a. ⌜ acknowledged a (now (output .exit)) ≡ acknowledgeOf r send recv (now (output .entry)) ⌝ }
 {

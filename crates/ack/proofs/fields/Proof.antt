@@ -31,7 +31,8 @@ sub-t13 c =
     let l = c .before .before .before in
     let a = l .before .before .before .args in
     let d = l .list-missing .ensures in
-    some-256th (a .next) (a .highest) (now (a .marks)) (l .list-missing .result) (d .0) (now (a .missing)) _ (d .1) (omega (arith, c .before .if2 .left))
+    let some = some-256th (a .next) (a .highest) (now (a .marks)) (l .list-missing .result) (d .0) (now (a .missing)) _ (d .1) (omega (arith, c .before .if2 .left)) in
+    omega arith
 
 returns-3 : tie.Need-returns-3
 returns-3 c =

@@ -1,0 +1,39 @@
+-- `places::all_alone` meets its contract: after i turns the flag speaks of the first i numbers. Assumes nothing.
+use Prim.Native.Nat.{_-_, _≤_}
+use mathlib.Core.Path.{_≡_}
+use native.Mathlib.Omega.{arith}
+use lib.ListN.{length}
+use Rattle.places.specs.Table.{every, aloneAt}
+use Rattle.places.proofs.Folds.{every-none, every-turn, every-last}
+use borrow.Author.Needs.{needs}
+use Rattle.places.proofs.all_alone.Statement.{statement}
+use Rattle.places.proofs.all_alone.Tie as tie
+
+abbrev Inv-loop : tie.InvT-loop
+Inv-loop numbers ok₀ i₀ ok i = (i ≤ length numbers) × (ok ≡ every i (aloneAt numbers))
+
+abbrev μ-loop : tie.MeasureT-loop
+μ-loop numbers ok₀ i₀ ok i = length numbers - i
+
+loop-holds : tie.Need-loop-holds Inv-loop μ-loop
+loop-holds c = (omega arith, every-none _)
+
+alone-requires : tie.Need-alone-requires Inv-loop μ-loop
+alone-requires c κs = search needs
+
+add-i : tie.Need-add-i Inv-loop μ-loop
+add-i c = search needs
+
+loop-less : tie.Need-loop-less Inv-loop μ-loop
+loop-less c = search needs
+
+loop-again : tie.Need-loop-again Inv-loop μ-loop
+loop-again c = (omega arith, every-turn _ _ _ _ (c .before .before .loop .inv .1) (c .alone .ensures))
+
+returns : tie.Need-returns Inv-loop μ-loop
+returns c = every-last _ _ _ _ (c .before .loop .inv .1) (omega arith)
+
+pub all-alone-spec : {M : Type 1} → statement M
+all-alone-spec =
+    tie.close
+    (tie.spec Inv-loop μ-loop loop-holds alone-requires add-i loop-less loop-again returns)

@@ -1,0 +1,4 @@
+-- The definitions that the promises cite: the table by number, and what each call does.
+pub mod Numbers
+pub mod Fetch
+pub mod Send
