@@ -7,7 +7,8 @@ use lib.ListN.{length}
 use Rattle.terms.specs.declared.SeqNo.{SeqNo}
 use Rattle.terms.proofs.Determined.{determined}
 use Rattle.receiver.proofs.Determined.{said-one}
-use Rattle.places.specs.Table.{countOf, placeOf, leastOf}
+use Rattle.terms.specs.Lists.{all}
+use Rattle.places.specs.Table.{differs, countOf, placeOf, leastOf}
 use Rattle.places.specs.Rules.{rules, countsFit, sizesFit}
 use Rattle.places.specs.Start.{startOf, started, Outcome}
 use Rattle.places.specs.declared.Sender.{Sender}
@@ -37,3 +38,6 @@ place-of-determined numbers number a b p q = determined p q
 
 pub least-determined : (numbers marks : List ℕ) (wanted from a b : ℕ) → a ≡ leastOf numbers marks wanted from 192 → b ≡ leastOf numbers marks wanted from 192 → a ≡ b
 least-determined numbers marks wanted from a b p q = determined p q
+
+pub absent-determined : (list : List ℕ) (x : ℕ) (a b : Bool) → a ≡ all (differs x) list → b ≡ all (differs x) list → a ≡ b
+absent-determined list x a b p q = determined p q

@@ -48,7 +48,7 @@ pub struct Started {
 }
 
 // Whether x stands nowhere in the list. One flag and no early way out: the loop becomes vector code.
-fn absent(list: &[u32], x: u32) -> bool
+pub fn absent(list: &[u32], x: u32) -> bool
     ensures { λ r. ⌜ r ≡ all (differs x) (now (list .entry)) ⌝ }
 {
     let mut ok = true;

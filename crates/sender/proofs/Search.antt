@@ -2,7 +2,7 @@
 use Prim.Native.Nat.{ℕ, zero, suc, _+_, _-_, _≤_, _<_}
 use mathlib.Core.Path.{_≡_, refl, sym, _∙_, ap, subst}
 use mathlib.Core.Bool.{Bool, true, false, _&&_, not, true≢false}
-use mathlib.Core.List.{List, [], _∷_}
+use mathlib.Core.List.{List, [], _∷_, _++_}
 use native.Mathlib.Nat.{zero-add, add-zero, add-suc, suc-add, not-suc-le-zero, le-of-suc-le-suc}
 use native.Mathlib.Numerals.{add-one}
 use native.Mathlib.Decide.{ℕ-discrete, decLt}
@@ -11,6 +11,7 @@ use borrow.Author.Tests.{eq-eqb, ne-eqb, eqb-true, eqb-false}
 use lib.Dec.{eqb}
 use lib.ListN.{length, getD, drop}
 use lib.Seq.{getD-drop, drop-drop}
+use Rattle.terms.specs.Ladder.{_when_else_}
 use Rattle.terms.proofs.Laws.{case}
 use Rattle.places.specs.Table.{_!_, placeOf, leastOf}
 use Rattle.places.proofs.Folds.{least-at, least-there, least-most}
@@ -180,3 +181,16 @@ module _ (numbers marks : List ℕ) (wanted next rank : ℕ) where
         let e : k ≡ rank = omega (arith, w .far) in
         rank-here (λ n. markedWith wanted marks (placeOf numbers n)) next (numbersAt numbers next (markedWith wanted marks)) k low (w .rest)
         ∙ ap (λ (i : ℕ). getD (numbersAt numbers next (markedWith wanted marks)) i 4294967295) e
+
+-- a run in two parts
+pub run-append : (p : ℕ → Bool) (a from b : ℕ) → run p from (a + b) ≡ run p from a ++ run p (from + a) b
+unfolding run
+run-append p zero from b = rw (zero-add, add-zero)
+run-append p (suc a) from b =
+    rw (suc-add a b, run-append p a (suc from) b)
+    (ap (λ (k : ℕ). (from ∷ (run p (suc from) a ++ run p k b)) when p from else (run p (suc from) a ++ run p k b)) (omega arith) ∙ joins (p from))
+  where
+    joins : (t : Bool) → ((from ∷ (run p (suc from) a ++ run p (from + suc a) b)) when t else (run p (suc from) a ++ run p (from + suc a) b))
+        ≡ ((from ∷ run p (suc from) a) when t else run p (suc from) a) ++ run p (from + suc a) b
+    joins true = refl
+    joins false = refl

@@ -2,3 +2,5 @@
 pub mod Numbers
 pub mod Fetch
 pub mod Send
+pub mod Acks
+pub mod Resend

@@ -8,7 +8,7 @@ use lib.Dec.{leb, ltb, eqb}
 use lib.ListN.{length, getD}
 use Rattle.terms.specs.Ladder.{_when_else_}
 use Rattle.terms.specs.Lists.{part}
-use Rattle.places.specs.Table.{_!_, isWaiting, isFlying, placeOf}
+use Rattle.places.specs.Table.{_!_, isWaiting, isFlying, oneIf, placeOf}
 use Rattle.places.specs.declared.Sender.{Sender}
 
 -- of count numbers from `from` on, those that pass, ascending
@@ -49,6 +49,16 @@ packetOf s store n = bytesAt (s .chunk) (placeOf (s .numbers) n) (sizeOf s n) st
 -- a clock below the last accepted one, or above 10^15
 unfoldable pub clockWrong : ℕ → ℕ → Bool
 clockWrong last clock = ltb clock last || ltb 1000000000000000 clock
+
+-- a list with a value in each place that passes, counted from i
+unfoldable pub replaced : ℕ → (ℕ → Bool) → ℕ → List ℕ → List ℕ
+replaced value p i [] = []
+replaced value p i (x ∷ l) = (value when p i else x) ∷ replaced value p (suc i) l
+
+-- flags of the places that pass: 1 there, and 0 elsewhere
+pub record Flags (p : ℕ → Bool) (flags : List ℕ) : Type 0 where
+  pub long : length flags ≡ 192
+  pub at-place : (i : ℕ) → i < 192 → flags ! i ≡ oneIf (p i)
 
 -- what a search by mark asks of the table: no number but 0 stands twice, none reaches next, and what bears the mark has a number
 pub record Tidy (numbers marks : List ℕ) (wanted next : ℕ) : Type 0 where

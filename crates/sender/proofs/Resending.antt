@@ -1,0 +1,145 @@
+-- What resend leaves, once the expired packets are found. Assumes nothing.
+use Prim.Native.Nat.{ℕ, zero, suc, _+_, _-_, _≤_, _<_}
+use mathlib.Core.Path.{_≡_, refl, sym, _∙_, ap}
+use mathlib.Core.Bool.{Bool, true, false, _&&_, _||_, not, true≢false, and-false, or-true}
+use mathlib.Core.List.{List, [], _∷_}
+use native.Mathlib.Nat.{not-suc-le-zero}
+use native.Mathlib.Decide.{ℕ-discrete, decLt}
+use native.Mathlib.Omega.{arith}
+use borrow.Author.Tests.{eq-eqb, ne-eqb, eqb-true, lt-ltb, le-ltb, le-leb, lt-leb, not-false, not-true}
+use lib.Dec.{leb, ltb, eqb}
+use lib.ListN.{length, getD}
+use lib.Seq.{take-nil}
+use Rattle.terms.specs.Ladder.{_when_else_}
+use Rattle.terms.specs.Lists.{all}
+use Rattle.terms.specs.Refusals.{numberOf}
+use Rattle.terms.specs.declared.Refusal.{Refusal}
+use Rattle.terms.proofs.Laws.{case, all-of, rung}
+use Rattle.receiver.specs.Answers.{Said, refusal, values, said}
+use Rattle.receiver.specs.declared.Answer.{Answer}
+use Rattle.receiver.specs.declared.Answer.the-variants as A
+use Rattle.receiver.proofs.Outcomes.{past as passed-rung}
+use Rattle.timer.specs.Timer.{rtoOf}
+use Rattle.places.specs.Table.{_!_, differs, placeOf}
+use Rattle.places.specs.Rules.{rules, countsFit}
+use Rattle.places.specs.Start.{Outcome}
+use Rattle.places.specs.declared.Sender.{Sender}
+use Rattle.places.specs.declared.Timer.the-variants as T
+use Rattle.places.proofs.Facts.{Ruled}
+use Rattle.sender.specs.Numbers.{run, numbersAt, markedWith, inFlight, Flags, Tidy, clockWrong}
+use Rattle.sender.specs.Resend.{isDue, resendRefusal, expiredOf, isEmpty, isIn, Expires, flyingBelow, timedAt, resentBy, resendLeaves, resendCount, resendOf}
+use Rattle.sender.specs.declared.Expired.{Expired}
+use Rattle.sender.proofs.Search.{beyond, place-is, stored}
+use Rattle.sender.proofs.Tables.{flags-are}
+use Rattle.sender.proofs.Outcomes.{run-passes, run-below, clock-fair}
+
+-- a number is in a run where it passes and lies within it, and else not
+module _ (p : ℕ → Bool) (n : ℕ) where
+  in-run : (count from : ℕ) → from ≤ n → n < from + count → p n ≡ true → all (differs n) (run p from count) ≡ false
+  unfolding run
+  in-run zero from a b t = absurd (omega arith)
+  in-run (suc count) from a b t =
+      case
+      (λ (e : from ≡ n). rw (ap p e ∙ t, eq-eqb from n e))
+      (λ (o : from ≡ n → ⊥).
+      rung (λ (l : List ℕ). all (differs n) l ≡ false) (p from)
+      (λ _. rw (in-run count (suc from) (omega (arith, o)) (omega arith) t) (and-false (differs n from)))
+      (λ _. in-run count (suc from) (omega (arith, o)) (omega arith) t))
+      (ℕ-discrete from n)
+
+  not-in : (count from : ℕ) → (p n ≡ true → n < from + count → ⊥) → all (differs n) (run p from count) ≡ true
+  not-in count from f =
+      all-of (differs n) (run p from count)
+      (λ k h. rw (ne-eqb (run p from count ! k) n (λ e. f (sym (ap p e) ∙ run-passes p count from k h) (omega (arith, run-below p count from k h)))))
+
+-- of the numbers in flight below end, those of the places in flight with numbers below end
+module _ (numbers marks : List ℕ) (next end : ℕ) (tidy : Tidy numbers marks 2 next) where
+  abbrev flies : ℕ → Bool
+  flies n = markedWith 2 marks (placeOf numbers n)
+
+  inside : (i : ℕ) → marks ! i ≡ 2 → i < 192
+  inside i e = case (λ (q : i < 192). q) (λ (q : i < 192 → ⊥). absurd (omega (arith, beyond marks i 0 (omega (arith, tidy .table)), e))) (decLt i 192)
+
+  grounded : (i : ℕ) → (marks ! i ≡ 2 → ⊥) → flies (numbers ! i) ≡ true → ⊥
+  grounded i o t =
+      let k = placeOf numbers (numbers ! i) in
+      let e = eqb-true (marks ! k) 2 t in
+      let b = inside k e in
+      let same = place-is numbers (numbers ! i) (omega (arith, tidy .row)) in
+      let some = tidy .some k b e in
+      case
+      (λ (q : i < 192). omega (arith, tidy .alone k i b q (λ z. o (sym (ap (λ (m : ℕ). marks ! m) z) ∙ e)) same))
+      (λ (q : i < 192 → ⊥). omega (arith, beyond numbers i 0 (omega (arith, tidy .row)), same))
+      (decLt i 192)
+
+  pub same-places : (i : ℕ) → isIn (run flies 0 end) (numbers ! i) ≡ flyingBelow numbers marks end i
+  same-places i =
+      case
+      (λ (e : marks ! i ≡ 2).
+      let t : flies (numbers ! i) ≡ true = rw (stored numbers marks 2 next tidy i (inside i e) e) (eq-eqb _ _ e) in
+      case
+      (λ (q : numbers ! i < end). rw (eq-eqb (marks ! i) 2 e, lt-ltb (numbers ! i) end q, in-run flies (numbers ! i) end 0 (omega arith) (omega arith) t))
+      (λ (q : numbers ! i < end → ⊥).
+      let b : end ≤ numbers ! i = omega arith in
+      rw (eq-eqb (marks ! i) 2 e, le-ltb (numbers ! i) end b, not-in flies (numbers ! i) end 0 (λ _ h. omega arith)))
+      (decLt (numbers ! i) end))
+      (λ (o : marks ! i ≡ 2 → ⊥). rw (ne-eqb (marks ! i) 2 o, not-in flies (numbers ! i) end 0 (λ t _. grounded i o t)))
+      (ℕ-discrete (marks ! i) 2)
+
+  pub again-same : (flags l : List ℕ) → Flags (flyingBelow numbers marks end) flags → run flies 0 end ≡ l → markedWith 1 flags ≡ (λ i. isIn l (numbers ! i))
+  again-same flags l f e =
+      let out : (i : ℕ) → 192 ≤ i → flyingBelow numbers marks end i ≡ false = λ i h. rw (beyond marks i 0 (omega (arith, tidy .table))) in
+      λ k i. (flags-are (flyingBelow numbers marks end) flags f out i ∙ sym (same-places i) ∙ ap (λ (x : List ℕ). isIn x (numbers ! i)) e) k
+
+-- what keeps resend from being done, and what holds where nothing does
+module _ (s : Sender) (clock : ℕ) (path : Bool) (answer : Answer) (judged : said answer ≡ resendRefusal s clock) where
+  pub resend-kept : (why : Refusal) → answer ≡ A.Refused why → _≡_ {A = Outcome} (record { says = refusal (numberOf why); state = s; lent = [] }) (resendOf s clock path)
+  unfolding resendOf
+  resend-kept why is = let e : resendRefusal s clock ≡ refusal (numberOf why) = sym judged ∙ ap said is in simp e
+
+  pub resend-pass : answer ≡ A.Done → _≡_ {A = Outcome} (record { says = values (resendCount s clock path ∷ []); state = resendLeaves s clock path; lent = [] }) (resendOf s clock path)
+  unfolding resendOf
+  resend-pass is = let e : resendRefusal s clock ≡ values [] = sym judged ∙ ap said is in simp e
+
+  pub resend-fair : answer ≡ A.Done → (rules s ≡ true) × (s .clock ≤ clock) × (clock ≤ 1000000000000000)
+  unfolding resendRefusal
+  resend-fair is =
+      let p11 = passed-rung 11 (not (rules s)) _ [] (sym judged ∙ ap said is) in
+      let p10 = passed-rung 10 (not (countsFit (s .chunk) (s .count))) _ [] (p11 .1) in
+      let p24 = passed-rung 24 (clockWrong (s .clock) clock) _ [] (p10 .1) in
+      let fair = clock-fair (s .clock) clock (p24 .0) in
+      (not-false (rules s) (p11 .0), fair .0, fair .1)
+
+nothing : (l : List ℕ) → length l ≤ 0 → l ≡ []
+nothing [] h = refl
+nothing (x ∷ l) h = absurd (not-suc-le-zero h)
+
+-- the four ways
+module _ (s : Sender) (clock : ℕ) where
+  abbrev pub Left : Bool → Outcome
+  Left path = record { says = values (resendCount s clock path ∷ []); state = resendLeaves s clock path; lent = [] }
+
+  -- nothing in flight
+  pub left-idle : (path : Bool) → length (inFlight s) ≤ 0 → (state : Sender) → state ≡ timedAt s T.Unarmed clock
+      → _≡_ {A = Outcome} (record { says = values (0 ∷ []); state = state; lent = [] }) (Left path)
+  left-idle true h state e = let n = nothing (inFlight s) h in rw (e, n) (rw (take-nil {A = ℕ} (s .window)))
+  left-idle false h state e = let n = nothing (inFlight s) h in rw (e, n)
+
+  module _ (some : 0 < length (inFlight s)) where
+    -- no new path
+    pub left-pathless : (state : Sender) → state ≡ timedAt s (T.At (clock + rtoOf (s .timing))) clock
+        → _≡_ {A = Outcome} (record { says = values (0 ∷ []); state = state; lent = [] }) (Left false)
+    left-pathless state e = rw (e, lt-leb (length (inFlight s)) 0 some, or-true (isEmpty (expiredOf s clock)))
+
+    -- none expired
+    pub left-young : length (expiredOf s clock) ≡ 0 → (state : Sender) → state ≡ timedAt s (T.At (clock + rtoOf (s .timing))) clock
+        → _≡_ {A = Outcome} (record { says = values (0 ∷ []); state = state; lent = [] }) (Left true)
+    left-young z state e = rw (e, lt-leb (length (inFlight s)) 0 some, z)
+
+    -- the expired go out again
+    pub left-again : 0 < length (expiredOf s clock) → (count : ℕ) → count ≡ length (expiredOf s clock) → (again : ℕ → Bool) → again ≡ (λ i. isIn (expiredOf s clock) (s .numbers ! i))
+        → (state : Sender) → state ≡ resentBy s clock again
+        → _≡_ {A = Outcome} (record { says = values (count ∷ []); state = state; lent = [] }) (Left true)
+    left-again h count n again a state e =
+        rw (e, n, lt-leb (length (inFlight s)) 0 some, lt-leb (length (expiredOf s clock)) 0 h)
+        (ap (λ (q : ℕ → Bool). record { says = values (length (expiredOf s clock) ∷ []); state = resentBy s clock q; lent = [] }) a)

@@ -1,0 +1,185 @@
+-- The loops that flag places, put a value into the flagged ones, and take samples in the order of numbers. Assumes nothing.
+use Prim.Native.Nat.{ℕ, zero, suc, _+_, _-_, _≤_, _<_, min}
+use mathlib.Core.Path.{_≡_, refl, sym, _∙_, ap}
+use mathlib.Core.Bool.{Bool, true, false}
+use mathlib.Core.List.{List, [], _∷_}
+use native.Mathlib.Nat.{zero-add, add-suc, suc-add, not-suc-le-zero, le-of-suc-le-suc}
+use native.Mathlib.Decide.{ℕ-discrete, decLt}
+use native.Mathlib.Omega.{arith}
+use borrow.Author.Tests.{eq-eqb, ne-eqb, eqb-true, lt-ltb, le-ltb}
+use lib.Dec.{eqb}
+use lib.ListN.{length, getD, set, replicate, length-set}
+use lib.Seq.{getD-set-same, getD-set-other, ext-getD}
+use Rattle.terms.specs.Ladder.{_when_else_}
+use Rattle.terms.proofs.Laws.{case}
+use Rattle.timer.specs.Timer.{sampledOf}
+use Rattle.timer.specs.Window.{grownOf}
+use Rattle.timer.specs.declared.Timing.{Timing}
+use Rattle.places.specs.Table.{_!_, oneIf, placeOf, candidateOf, leastOf}
+use Rattle.sender.specs.Numbers.{run, numbersAt, markedWith, replaced, Flags, Tidy}
+use Rattle.sender.specs.Acks.{timedBy, grownBy, Measures}
+use Rattle.sender.specs.declared.Measured.{Measured}
+use Rattle.sender.proofs.Search.{beyond, Ahead, ahead}
+
+-- a list with a value in some places
+module _ (value : ℕ) (p : ℕ → Bool) where
+  pub replaced-length : (i : ℕ) (l : List ℕ) → length (replaced value p i l) ≡ length l
+  unfolding replaced
+  replaced-length i [] = refl
+  replaced-length i (x ∷ l) = ap suc (replaced-length (suc i) l)
+
+  replaced-from : (i : ℕ) (l : List ℕ) (k : ℕ) → k < length l → replaced value p i l ! k ≡ (value when p (i + k) else (l ! k))
+  unfolding replaced
+  replaced-from i [] k h = absurd (not-suc-le-zero h)
+  replaced-from i (x ∷ l) zero h = ap (λ (n : ℕ). value when p n else x) (omega arith)
+  replaced-from i (x ∷ l) (suc k) h = replaced-from (suc i) l k (le-of-suc-le-suc h) ∙ ap (λ (n : ℕ). value when p n else (l ! k)) (suc-add i k ∙ sym (add-suc i k))
+
+  pub replaced-at : (l : List ℕ) (k : ℕ) → k < length l → replaced value p 0 l ! k ≡ (value when p k else (l ! k))
+  replaced-at l k h = replaced-from 0 l k h ∙ ap (λ (n : ℕ). value when p n else (l ! k)) (zero-add k)
+
+  -- the loop: the first i places are done, the rest is as it was
+  pub record Replacing (old now : List ℕ) (i : ℕ) : Type 0 where
+    pub high : i ≤ 192
+    pub long : length now ≡ 192
+    pub done : (k : ℕ) → k < i → now ! k ≡ (value when p k else (old ! k))
+    pub left : (k : ℕ) → i ≤ k → now ! k ≡ old ! k
+
+  pub replace-start : (old : List ℕ) → length old ≡ 192 → Replacing old old 0
+  replace-start old h = record { high = omega arith; long = h; done = λ k a. absurd (not-suc-le-zero a); left = λ k a. refl }
+
+  pub replace-more : (old now : List ℕ) (i : ℕ) → Replacing old now i → i < 192 → (x : ℕ) → x ≡ (value when p i else (now ! i)) → Replacing old (set now i x) (i + 1)
+  replace-more old now i r h x e = record {
+    high = omega arith;
+    long = simp length-set (r .long);
+    done = λ k a.
+        case
+        (λ (q : k ≡ i). rw q (getD-set-same now i x 0 (omega (arith, r .long)) ∙ e ∙ rw (r .left i (omega arith))))
+        (λ (q : k ≡ i → ⊥). getD-set-other now i k x 0 q ∙ r .done k (omega (arith, q)))
+        (ℕ-discrete k i);
+    left = λ k a. getD-set-other now i k x 0 (λ q. omega arith) ∙ r .left k (omega arith);
+  }
+
+  pub replace-end : (old now : List ℕ) (i : ℕ) → Replacing old now i → length old ≡ 192 → 192 ≤ i → now ≡ replaced value p 0 old
+  replace-end old now i r h b =
+      ext-getD 0 now (replaced value p 0 old) (r .long ∙ sym h ∙ sym (replaced-length 0 old))
+      (λ k a. r .done k (omega (arith, r .long)) ∙ sym (replaced-at old k (omega (arith, r .long))))
+
+-- the flags, place by place
+pub record Flagging (p : ℕ → Bool) (flags : List ℕ) (i : ℕ) : Type 0 where
+  pub high : i ≤ 192
+  pub long : length flags ≡ 192
+  pub done : (k : ℕ) → k < i → flags ! k ≡ oneIf (p k)
+
+module _ (p : ℕ → Bool) where
+  pub flag-more : (flags : List ℕ) (i : ℕ) → Flagging p flags i → i < 192 → (x : ℕ) → x ≡ oneIf (p i) → Flagging p (set flags i x) (i + 1)
+  flag-more flags i r h x e = record {
+    high = omega arith;
+    long = simp length-set (r .long);
+    done = λ k a.
+        case
+        (λ (q : k ≡ i). rw q (getD-set-same flags i x 0 (omega (arith, r .long)) ∙ e))
+        (λ (q : k ≡ i → ⊥). getD-set-other flags i k x 0 q ∙ r .done k (omega (arith, q)))
+        (ℕ-discrete k i);
+  }
+
+  pub flag-end : (flags : List ℕ) (i : ℕ) → Flagging p flags i → 192 ≤ i → Flags p flags
+  flag-end flags i r h = record { long = r .long; at-place = λ k a. r .done k (omega arith) }
+
+-- a search from a number on finds none below it
+candidate-low : (number mark wanted from : ℕ) → from ≤ 4294967295 → from ≤ candidateOf number mark wanted from
+unfolding candidateOf
+candidate-low number mark wanted from h =
+    case
+    (λ (e : mark ≡ wanted).
+    case
+    (λ (q : number < from). rw (eq-eqb _ _ e, lt-ltb _ _ q) h)
+    (λ (q : number < from → ⊥). let k : from ≤ number = omega arith in rw (eq-eqb _ _ e, le-ltb _ _ k) k)
+    (decLt number from))
+    (λ (o : mark ≡ wanted → ⊥). rw (ne-eqb _ _ o) h)
+    (ℕ-discrete mark wanted)
+
+pub least-low : (numbers marks : List ℕ) (wanted from n : ℕ) → from ≤ 4294967295 → from ≤ leastOf numbers marks wanted from n
+unfolding leastOf
+least-low numbers marks wanted from zero h = h
+least-low numbers marks wanted from (suc n) h = omega (arith, least-low numbers marks wanted from n h, candidate-low (numbers ! n) (marks ! n) wanted from h)
+
+-- the samples so far, and what is left of the numbers
+pub record Measuring (numbers flags : List ℕ) (sample : ℕ → ℕ) (next : ℕ) (timing : Timing) (window : ℕ) (m : Measured) (low : ℕ) : Type 0 where
+  pub rest : List ℕ
+  pub front : Ahead (λ n. markedWith 1 flags (placeOf numbers n)) next low rest
+  pub times : timedBy sample (m .timing) rest ≡ timedBy sample timing (numbersAt numbers next (markedWith 1 flags))
+  pub grows : grownBy (m .window) rest ≡ grownBy window (numbersAt numbers next (markedWith 1 flags))
+  pub counts : m .count + length rest ≡ length (numbersAt numbers next (markedWith 1 flags))
+  pub few : m .count ≤ low
+
+module _ (numbers flags : List ℕ) (sample : ℕ → ℕ) (next : ℕ) (timing : Timing) (window : ℕ) where
+  pub measure-start : Tidy numbers flags 1 next → (low : ℕ) → low ≡ leastOf numbers flags 1 0 192
+      → Measuring numbers flags sample next timing window (record { timing = timing; window = window; count = 0 }) low
+  measure-start tidy low e =
+      let z : next - 0 ≡ next = omega arith in
+      record {
+        rest = numbersAt numbers next (markedWith 1 flags);
+        front = rw e (rw z at (ahead numbers flags 1 next tidy 0 (omega arith)));
+        times = refl;
+        grows = refl;
+        counts = zero-add (length (numbersAt numbers next (markedWith 1 flags)));
+        few = omega arith;
+      }
+
+  pub measure-more : (m : Measured) (low : ℕ) → Measuring numbers flags sample next timing window m low → Tidy numbers flags 1 next → (low ≡ 4294967295 → ⊥)
+      → (after : ℕ) → after ≡ leastOf numbers flags 1 (low + 1) 192
+      → Measuring numbers flags sample next timing window (record { timing = sampledOf (m .timing) (sample low); window = grownOf (m .window); count = m .count + 1 }) after
+  measure-more m low r tidy o after e =
+      let some : low < 4294967295 = omega (arith, r .front .most, o) in
+      let is = r .front .more some in
+      record {
+        rest = run (λ n. markedWith 1 flags (placeOf numbers n)) (low + 1) (next - (low + 1));
+        front = rw e (ahead numbers flags 1 next tidy (low + 1) (omega (arith, r .front .below some)));
+        times = rw is at (r .times);
+        grows = rw is at (r .grows);
+        counts = let c = rw is at (r .counts) in omega (arith, c);
+        few = omega (arith, r .few, least-low numbers flags 1 (low + 1) 192 (omega arith), e);
+      }
+
+  pub measure-end : (m : Measured) (low : ℕ) → Measuring numbers flags sample next timing window m low → low ≡ 4294967295
+      → Measures sample timing window (numbersAt numbers next (markedWith 1 flags)) m
+  measure-end m low r e =
+      let is = r .front .none e in
+      record {
+        times = rw is at (r .times);
+        grows = rw is at (r .grows);
+        counts = let c = rw is at (r .counts) in omega (arith, c);
+      }
+
+pub flag-start : (p : ℕ → Bool) (flags : List ℕ) → length flags ≡ 192 → Flagging p flags 0
+flag-start p flags h = record { high = omega arith; long = h; done = λ k a. absurd (not-suc-le-zero a) }
+
+-- the place of the number in hand, and one turn with its sample
+module _ (numbers flags : List ℕ) (sample : ℕ → ℕ) (next : ℕ) (timing : Timing) (window : ℕ) (m : Measured) (low : ℕ)
+    (r : Measuring numbers flags sample next timing window m low) where
+  pub measure-some : (low ≡ 4294967295 → ⊥) → low < 4294967295
+  measure-some o = omega (arith, r .front .most, o)
+
+  pub measure-place : length flags ≡ 192 → (low ≡ 4294967295 → ⊥) → placeOf numbers low < 192
+  measure-place long o =
+      let e = eqb-true (flags ! placeOf numbers low) 1 (r .front .passes (measure-some o)) in
+      case
+      (λ (q : placeOf numbers low < 192). q)
+      (λ (q : placeOf numbers low < 192 → ⊥). absurd (omega (arith, beyond flags (placeOf numbers low) 0 (omega arith), e)))
+      (decLt (placeOf numbers low) 192)
+
+  pub measure-turn : Tidy numbers flags 1 next → (low ≡ 4294967295 → ⊥) → (x : ℕ) → x ≡ sample low
+      → (n : Measured) → n ≡ record { timing = sampledOf (m .timing) x; window = grownOf (m .window); count = m .count + 1 }
+      → (after : ℕ) → after ≡ leastOf numbers flags 1 (low + 1) 192 → Measuring numbers flags sample next timing window n after
+  measure-turn tidy o x e n f after g = rw (f, e) (measure-more numbers flags sample next timing window m low r tidy o after g)
+
+-- flags say of each index what they were made of
+pub flags-are : (p : ℕ → Bool) (flags : List ℕ) → Flags p flags → ((i : ℕ) → 192 ≤ i → p i ≡ false) → (i : ℕ) → markedWith 1 flags i ≡ p i
+flags-are p flags f out i =
+    case
+    (λ (q : i < 192). rw (f .at-place i q) (one-back (p i)))
+    (λ (q : i < 192 → ⊥). rw (beyond flags i 0 (omega (arith, f .long)), out i (omega arith)))
+    (decLt i 192) where
+      one-back : (b : Bool) → eqb (oneIf b) 1 ≡ b
+      one-back true = refl
+      one-back false = refl
