@@ -21,8 +21,8 @@ start-determined first chunk count store a b p q =
     λ k. record { answer = said-one (a .answer) (b .answer) (ap (λ (o : Outcome). o .says) e) k; state = e k .state }
 
 -- `rules_hold` and `valid`
-pub rules-determined : (s : Sender) (a b : Bool) → a ≡ rules s → b ≡ rules s → a ≡ b
-rules-determined s a b p q = determined p q
+pub valid-determined : (s : Sender) (a b : Bool) → a ≡ rules s → b ≡ rules s → a ≡ b
+valid-determined s a b p q = determined p q
 
 pub counts-fit-determined : (chunk count : ℕ) (a b : Bool) → a ≡ countsFit chunk count → b ≡ countsFit chunk count → a ≡ b
 counts-fit-determined chunk count a b p q = determined p q
