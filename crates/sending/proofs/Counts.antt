@@ -9,17 +9,24 @@ use native.Mathlib.Omega.{arith}
 use borrow.Author.Tests.{eq-eqb, ne-eqb, lt-ltb, le-ltb}
 use lib.Dec.{ltb, eqb}
 use lib.ListN.{length, set}
-use Rattle.terms.proofs.Laws.{case}
+use Rattle.terms.specs.Ladder.{_when_else_}
+use Rattle.terms.proofs.Laws.{case, rung}
+use Rattle.receiver.specs.Answers.{Said, refusal}
 use Rattle.places.specs.Table.{_!_, countOf, placeOf}
 use Rattle.sender.specs.Numbers.{run, numbersAt, markedWith, replaced}
 use Rattle.sender.specs.Resend.{isIn}
 use Rattle.sender.proofs.Search.{beyond, place-is, run-none}
 use Rattle.sender.proofs.Resending.{in-run, not-in}
+use Rattle.sending.specs.Steps.{isFair}
 
 -- a test that was judged
 pub by-bool : {C : Type 0} (b : Bool) → (b ≡ true → C) → (b ≡ false → C) → C
 by-bool true f g = f refl
 by-bool false f g = g refl
+
+-- a rung that blames neither the rules nor the sizes
+pub fair-rung : (n : ℕ) (test : Bool) (rest : Said) → isFair (refusal n) ≡ true → isFair rest ≡ true → isFair (refusal n when test else rest) ≡ true
+fair-rung n test rest e f = rung (λ (x : Said). isFair x ≡ true) test (λ _. e) (λ _. f)
 
 -- a number is in a run from 0 where it is below the end and passes
 pub run-has : (p : ℕ → Bool) (next n : ℕ) → isIn (run p 0 next) n ≡ (ltb n next && p n)
@@ -110,3 +117,16 @@ count-freed x some p i (y ∷ l) =
     by-bool (p i)
     (λ t. rw (t, ne-eqb 0 x (λ e. omega arith)) (omega arith))
     (λ f. rw f (omega arith))
+
+-- the head of a run is its lowest number
+pub run-lowest : (p : ℕ → Bool) (n : ℕ) → p n ≡ true → (count from : ℕ) → from ≤ n → n < from + count → run p from count ! 0 ≤ n
+unfolding run
+run-lowest p n t zero from a b = absurd (omega arith)
+run-lowest p n t (suc count) from a b =
+    by-bool (p from)
+    (λ e. rw e a)
+    (λ e.
+    case
+    (λ (q : from ≡ n). absurd (true≢false (sym t ∙ ap p (sym q) ∙ e)))
+    (λ (o : from ≡ n → ⊥). rw e (run-lowest p n t count (suc from) (omega (arith, o)) (omega arith)))
+    (ℕ-discrete from n))

@@ -1,2 +1,4 @@
 pub mod Counts
 pub mod Stands
+pub mod Moves
+pub mod Sends

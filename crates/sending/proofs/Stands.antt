@@ -5,7 +5,7 @@ use mathlib.Core.List.{List}
 use native.Mathlib.Decide.{ℕ-discrete, decLe, decLt}
 use native.Mathlib.Omega.{arith}
 use borrow.Author.Tests.{le-leb, lt-leb, lt-ltb, le-ltb, eq-eqb, ne-eqb}
-use lib.ListN.{length}
+use lib.ListN.{length, length-take, length-drop}
 use Rattle.terms.specs.Ladder.{_when_else_}
 use Rattle.terms.proofs.Laws.{case}
 use Rattle.places.specs.Table.{_!_, isWaiting, isFlying, countOf, placeOf}
@@ -14,7 +14,7 @@ use Rattle.places.proofs.Facts.{Ruled, ruled}
 use Rattle.sender.specs.Numbers.{run, markedWith, waiting, inFlight, bytesAt, packetOf}
 use Rattle.sender.specs.Resend.{isIn}
 use Rattle.sender.proofs.Search.{beyond, place-is, stored}
-use Rattle.sender.proofs.Outcomes.{tidy}
+use Rattle.sender.proofs.Outcomes.{tidy, packet-in}
 use Rattle.sending.specs.Meaning.{Standing, unmade, waits, flies, gone, markOf, sentOf, standing, doesWait, doesFly, Sound}
 use Rattle.sending.proofs.Counts.{by-bool, run-has, marked-count}
 
@@ -98,6 +98,12 @@ module _ (s : Sender) (store : List ℕ) (sound : Sound s store) where
   pub stands-at : (i : ℕ) → i < 192 → (s .marks ! i ≡ 0 → ⊥) → standing s store (s .numbers ! i) ≡ standingAt s store i
   unfolding standing standingAt
   stands-at i h o = rw (lt-leb _ _ (facts .low i (omega (arith, sound .marks-long)) o), own-place i h o)
+
+  -- a packet is as long as its place says
+  pub place-long : (i : ℕ) → i < 192 → (s .marks ! i ≡ 0 → ⊥) → length (bytesAt (s .chunk) i (s .lengths ! i) store) ≡ s .lengths ! i
+  place-long i h o =
+      let inside = packet-in s (sound .numbers-long) (sound .marks-long) (omega (arith, sound .width)) facts (length store) i (sound .fits) h o in
+      simp (length-take, length-drop) (omega arith)
 
   -- as many numbers wait, and are in flight, as places are marked so
   marked : (wanted : ℕ) → 1 ≤ wanted → length (run (λ n. markedWith wanted (s .marks) (placeOf (s .numbers) n)) 0 (s .next .0)) ≡ countOf wanted (s .marks)

@@ -1,13 +1,19 @@
 -- What each call that is done makes of a number's standing. Proved of each call's definition (proofs/).
 use Prim.Native.Nat.{ℕ, _+_, _-_, _*_}
-use mathlib.Core.Bool.{Bool, _&&_}
+use mathlib.Core.Bool.{Bool, true, _&&_, not}
 use mathlib.Core.List.{List}
 use lib.Dec.{leb, ltb, eqb}
-use lib.ListN.{length, take, drop}
+use lib.ListN.{take, drop}
 use Rattle.terms.specs.Ladder.{_when_else_}
 use Rattle.terms.specs.Lists.{all}
+use Rattle.receiver.specs.Answers.{Said, refusal, values}
 use Rattle.places.specs.Table.{differs}
 use Rattle.sending.specs.Meaning.{Standing, unmade, waits, flies, gone}
+
+-- an answer that blames neither the state's rules nor the sizes
+abbrev pub isFair : Said → Bool
+isFair (refusal why) = not (eqb why 11) && not (eqb why 10)
+isFair (values given) = true
 
 -- send: the number that it tells, which was waiting, is in flight since the clock
 abbrev pub sentAs : ℕ → ℕ → ℕ → Standing → Standing
