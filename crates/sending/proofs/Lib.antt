@@ -2,3 +2,5 @@ pub mod Counts
 pub mod Stands
 pub mod Moves
 pub mod Sends
+pub mod Frees
+pub mod Acks

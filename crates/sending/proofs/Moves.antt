@@ -22,11 +22,16 @@ use Rattle.sending.specs.Steps.{sentAs}
 use Rattle.sending.proofs.Counts.{count-set}
 use Rattle.sending.proofs.Stands.{waits-at, flies-at, at-same, unmade-from, facts, one-place, where-is, nowhere-gone, stands-at}
 
--- a timer that was armed, and one that is armed now, is due in time
+-- a timer that was in time still is, and so is one that is armed now
+pub later-fits : (timer : Timer) (last clock : ℕ) → timerFits timer last ≡ true → last ≤ clock → timerFits timer clock ≡ true
+unfolding timerFits
+later-fits T.Unarmed last clock f a = refl
+later-fits (T.At due) last clock f a = let d = leb-true due (last + 60000) f in le-leb due (clock + 60000) (omega arith)
+
 pub armed-fits : (timer : Timer) (last clock rto : ℕ) → timerFits timer last ≡ true → last ≤ clock → rto ≤ 60000 → timerFits (armed timer (clock + rto)) clock ≡ true
 unfolding timerFits armed
 armed-fits T.Unarmed last clock rto f a b = le-leb (clock + rto) (clock + 60000) (omega arith)
-armed-fits (T.At due) last clock rto f a b = let d = leb-true due (last + 60000) f in le-leb due (clock + 60000) (omega arith)
+armed-fits (T.At due) last clock rto f a b = later-fits (T.At due) last clock f a
 
 -- a packet of a place that waits moves in flight
 module _ (s : Sender) (store : List ℕ) (sound : Sound s store) (place : ℕ) (inside : place < 192) (waits-there : s .marks ! place ≡ 1)

@@ -1,7 +1,7 @@
 -- Send in the meaning's words: the lowest number that waits is in flight from the clock on, with its packet at the output's front, every other
 -- number stands as it stood, and the state stays sound. Assumes nothing.
 use Prim.Native.Nat.{ℕ, _+_, _≤_, _<_}
-use mathlib.Core.Path.{_≡_, refl, sym, _∙_, ap, subst}
+use mathlib.Core.Path.{_≡_, refl, sym, _∙_, ap}
 use mathlib.Core.Bool.{true}
 use mathlib.Core.List.{List, [], _∷_}
 use native.Mathlib.Decide.{decLe}
@@ -16,7 +16,7 @@ use Rattle.receiver.specs.Answers.{Said, refusal, values}
 use Rattle.receiver.proofs.Laws.{by-said}
 use Rattle.timer.specs.Timer.{rtoOf}
 use Rattle.timer.proofs.Laws.{rto-most}
-use Rattle.places.specs.Table.{_!_, countOf, placeOf}
+use Rattle.places.specs.Table.{_!_, placeOf}
 use Rattle.places.specs.Rules.{timerFits}
 use Rattle.places.specs.declared.Sender.{Sender}
 use Rattle.sender.specs.Numbers.{markedWith, waiting, inFlight, sizeOf, packetOf, clockWrong}
@@ -25,8 +25,8 @@ use Rattle.sender.specs.Send.{sendSaid, armed, departed, sendOf}
 use Rattle.sender.proofs.Outcomes.{Leaves, leaves, Ranked, ranked-of, send-refused, send-done}
 use Rattle.sending.specs.Meaning.{waits, standing, doesWait, Sound}
 use Rattle.sending.specs.Steps.{isFair, sentAs}
-use Rattle.sending.proofs.Counts.{fair-rung, run-has, run-lowest}
-use Rattle.sending.proofs.Stands.{place-long, in-flight-count, waits-at, facts, stands-at, waiting-is}
+use Rattle.sending.proofs.Counts.{fair-rung, run-lowest}
+use Rattle.sending.proofs.Stands.{place-long, in-flight-count, waits-at, facts, stands-at, waits-told}
 use Rattle.sending.proofs.Moves.{armed-fits, moved-sound, moved-means}
 
 -- what a send that is done changes: the lowest number that waits, of which its packet stands at the output's front, flies from the clock on, and
@@ -73,7 +73,7 @@ module _ (s : Sender) (clock : ℕ) (store output : List ℕ) where
 
     first : (n : ℕ) → doesWait (standing s store n) ≡ true → waiting s ! 0 ≤ n
     first n t =
-        let b = sym (run-has (λ m. markedWith 1 (s .marks) (placeOf (s .numbers) m)) (s .next .0) n) ∙ waiting-is s store n ∙ t in
+        let b = waits-told s store n ∙ t in
         run-lowest (λ m. markedWith 1 (s .marks) (placeOf (s .numbers) m)) n (and-right (ltb n (s .next .0)) _ b) (s .next .0) 0 (omega arith)
         (omega (arith, ltb-true n (s .next .0) (and-left (ltb n (s .next .0)) _ b)))
 
@@ -133,13 +133,11 @@ module _ (s : Sender) (clock : ℕ) (store output : List ℕ) where
       (λ (q : length (waiting s) ≤ 0 → ⊥). rw (packet-long sound (omega arith)))
       (decLe (length (waiting s)) 0)))
 
-  -- no answer blames the rules or the sizes
+  -- none blames the rules or the sizes
   pub send-fair : Sound s store → isFair (sendOf s clock store output .says) ≡ true
-  unfolding sendSaid
   send-fair sound =
-      subst (λ (x : Said). isFair x ≡ true) send-is
-      (rw (sound .keeps, sound .fits)
+      rw (send-answer sound)
       (fair-rung 24 (clockWrong (s .clock) clock) _ refl
       (fair-rung 17 (isEmpty (waiting s)) _ refl
-      (fair-rung 22 (leb (s .window) (countOf 2 (s .marks))) _ refl
-      (fair-rung 7 (ltb (length output) (sizeOf s (waiting s ! 0))) _ refl refl)))))
+      (fair-rung 22 (leb (s .window) (length (inFlight s))) _ refl
+      (fair-rung 7 (ltb (length output) (length (packetOf s store (waiting s ! 0)))) _ refl refl))))

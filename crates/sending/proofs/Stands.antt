@@ -1,14 +1,17 @@
 -- Where a number stands in a sound state: at one place of the table, or nowhere; and its standing from there. Assumes nothing.
 use Prim.Native.Nat.{ℕ, _≤_, _<_}
 use mathlib.Core.Path.{_≡_, refl, sym, _∙_, ap}
+use mathlib.Core.Bool.{true, _&&_}
 use mathlib.Core.List.{List}
 use native.Mathlib.Decide.{ℕ-discrete, decLe, decLt}
 use native.Mathlib.Omega.{arith}
 use borrow.Author.Tests.{le-leb, lt-leb, lt-ltb, le-ltb, eq-eqb, ne-eqb}
+use lib.Dec.{ltb}
 use lib.ListN.{length, length-take, length-drop}
 use Rattle.terms.specs.Ladder.{_when_else_}
-use Rattle.terms.proofs.Laws.{case}
+use Rattle.terms.proofs.Laws.{case, and-left}
 use Rattle.places.specs.Table.{_!_, isWaiting, isFlying, countOf, placeOf}
+use Rattle.places.specs.Rules.{countsFit, sizesFit}
 use Rattle.places.specs.declared.Sender.{Sender}
 use Rattle.places.proofs.Facts.{Ruled, ruled}
 use Rattle.sender.specs.Numbers.{run, markedWith, waiting, inFlight, bytesAt, packetOf}
@@ -34,6 +37,18 @@ module _ (s : Sender) (store : List ℕ) (i : ℕ) where
   unfolding standingAt
   flies-at e = rw (e)
 
+-- what a mark says of the standing
+module _ (packet : List ℕ) (sent mark : ℕ) where
+  pub told-waits : isWaiting mark ≡ doesWait (waits packet when isWaiting mark else flies packet sent when isFlying mark else gone)
+  told-waits = by-bool (isWaiting mark) (λ t. rw t) (λ f. rw f (by-bool (isFlying mark) (λ t. rw t) (λ g. rw g)))
+
+  pub told-flies : isFlying mark ≡ doesFly (waits packet when isWaiting mark else flies packet sent when isFlying mark else gone)
+  told-flies =
+      case
+      (λ (e : mark ≡ 1). rw e)
+      (λ (o : mark ≡ 1 → ⊥). rw (ne-eqb mark 1 o) (by-bool (isFlying mark) (λ t. rw t) (λ g. rw g)))
+      (ℕ-discrete mark 1)
+
 -- places with the same fields stand the same
 pub at-same : (s t : Sender) (store : List ℕ) (i : ℕ) → t .chunk ≡ s .chunk → t .lengths ! i ≡ s .lengths ! i → t .sent ! i ≡ s .sent ! i
     → t .marks ! i ≡ s .marks ! i → standingAt t store i ≡ standingAt s store i
@@ -52,6 +67,11 @@ unmade-from s store n a = simp (le-leb _ _ a)
 module _ (s : Sender) (store : List ℕ) (sound : Sound s store) where
   pub facts : Ruled s
   facts = ruled s (sound .keeps)
+
+  -- the sizes fit without the store
+  pub counts-fit : countsFit (s .chunk) (s .count) ≡ true
+  unfolding sizesFit
+  counts-fit = and-left (countsFit (s .chunk) (s .count)) _ (sound .fits)
 
   -- a stored number has one place
   pub own-place : (i : ℕ) → i < 192 → (s .marks ! i ≡ 0 → ⊥) → placeOf (s .numbers) (s .numbers ! i) ≡ i
@@ -99,6 +119,10 @@ module _ (s : Sender) (store : List ℕ) (sound : Sound s store) where
   unfolding standing standingAt
   stands-at i h o = rw (lt-leb _ _ (facts .low i (omega (arith, sound .marks-long)) o), own-place i h o)
 
+  pub flies-mark : (i : ℕ) → i < 192 → (s .marks ! i ≡ 0 → ⊥) → doesFly (standing s store (s .numbers ! i)) ≡ isFlying (s .marks ! i)
+  unfolding standingAt
+  flies-mark i h o = ap doesFly (stands-at i h o) ∙ sym (told-flies (bytesAt (s .chunk) i (s .lengths ! i) store) (s .sent ! i) (s .marks ! i))
+
   -- a packet is as long as its place says
   pub place-long : (i : ℕ) → i < 192 → (s .marks ! i ≡ 0 → ⊥) → length (bytesAt (s .chunk) i (s .lengths ! i) store) ≡ s .lengths ! i
   place-long i h o =
@@ -122,30 +146,24 @@ module _ (s : Sender) (store : List ℕ) (sound : Sound s store) where
 
 -- the numbers that wait, and those in flight, are those whose standing says so
 module _ (s : Sender) (store : List ℕ) (n : ℕ) where
-  pub waiting-is : isIn (waiting s) n ≡ doesWait (standing s store n)
+  pub waits-told : (ltb n (s .next .0) && isWaiting (markOf s n)) ≡ doesWait (standing s store n)
   unfolding standing
-  waiting-is =
-      run-has (λ m. markedWith 1 (s .marks) (placeOf (s .numbers) m)) (s .next .0) n
-      ∙ case
-      (λ (a : n < s .next .0). rw (lt-ltb _ _ a, lt-leb _ _ a) (by-marks (markOf s n)))
+  waits-told =
+      case
+      (λ (a : n < s .next .0). rw (lt-ltb _ _ a, lt-leb _ _ a) (told-waits (packetOf s store n) (sentOf s n) (markOf s n)))
       (λ (a : n < s .next .0 → ⊥). rw (le-ltb n (s .next .0) (omega arith), le-leb (s .next .0) n (omega arith)))
-      (decLt n (s .next .0)) where
-        by-marks : (m : ℕ) → isWaiting m
-            ≡ doesWait (waits (packetOf s store n) when isWaiting m else flies (packetOf s store n) (sentOf s n) when isFlying m else gone)
-        by-marks m = by-bool (isWaiting m) (λ t. rw t) (λ f. rw f (by-bool (isFlying m) (λ t. rw t) (λ g. rw g)))
+      (decLt n (s .next .0))
+
+  pub flies-told : (ltb n (s .next .0) && isFlying (markOf s n)) ≡ doesFly (standing s store n)
+  unfolding standing
+  flies-told =
+      case
+      (λ (a : n < s .next .0). rw (lt-ltb _ _ a, lt-leb _ _ a) (told-flies (packetOf s store n) (sentOf s n) (markOf s n)))
+      (λ (a : n < s .next .0 → ⊥). rw (le-ltb n (s .next .0) (omega arith), le-leb (s .next .0) n (omega arith)))
+      (decLt n (s .next .0))
+
+  pub waiting-is : isIn (waiting s) n ≡ doesWait (standing s store n)
+  waiting-is = run-has (λ m. markedWith 1 (s .marks) (placeOf (s .numbers) m)) (s .next .0) n ∙ waits-told
 
   pub in-flight-is : isIn (inFlight s) n ≡ doesFly (standing s store n)
-  unfolding standing
-  in-flight-is =
-      run-has (λ m. markedWith 2 (s .marks) (placeOf (s .numbers) m)) (s .next .0) n
-      ∙ case
-      (λ (a : n < s .next .0). rw (lt-ltb _ _ a, lt-leb _ _ a) (by-marks (markOf s n)))
-      (λ (a : n < s .next .0 → ⊥). rw (le-ltb n (s .next .0) (omega arith), le-leb (s .next .0) n (omega arith)))
-      (decLt n (s .next .0)) where
-        by-marks : (m : ℕ) → isFlying m
-            ≡ doesFly (waits (packetOf s store n) when isWaiting m else flies (packetOf s store n) (sentOf s n) when isFlying m else gone)
-        by-marks m =
-            case
-            (λ (e : m ≡ 1). rw e)
-            (λ (o : m ≡ 1 → ⊥). rw (ne-eqb m 1 o) (by-bool (isFlying m) (λ t. rw t) (λ g. rw g)))
-            (ℕ-discrete m 1)
+  in-flight-is = run-has (λ m. markedWith 2 (s .marks) (placeOf (s .numbers) m)) (s .next .0) n ∙ flies-told
