@@ -4,3 +4,5 @@ pub mod Moves
 pub mod Sends
 pub mod Frees
 pub mod Acks
+pub mod Again
+pub mod Resends

@@ -8,6 +8,8 @@ use Rattle.terms.specs.Ladder.{_when_else_}
 use Rattle.terms.specs.Lists.{all}
 use Rattle.receiver.specs.Answers.{Said, refusal, values}
 use Rattle.places.specs.Table.{differs}
+use Rattle.places.specs.declared.Sender.{Sender}
+use Rattle.sender.specs.Resend.{expiredOf, isIn}
 use Rattle.sending.specs.Meaning.{Standing, unmade, waits, flies, gone}
 
 -- an answer that blames neither the state's rules nor the sizes
@@ -29,12 +31,16 @@ ackedAs through nacks n unmade = unmade
 ackedAs through nacks n (waits packet) = waits packet
 ackedAs through nacks n gone = gone
 
--- resend: the expired numbers are in flight since the clock, with the packets that they had
+-- the numbers that go out again: the expired, where a new path is given
+abbrev pub goesAgain : Sender → ℕ → Bool → ℕ → Bool
+goesAgain s clock path n = path && isIn (expiredOf s clock) n
+
+-- resend: those numbers are in flight since the clock, with the packets that they had
 abbrev pub resentAs : (ℕ → Bool) → ℕ → ℕ → Standing → Standing
-resentAs expired clock n (flies packet sent) = flies packet clock when expired n else flies packet sent
-resentAs expired clock n unmade = unmade
-resentAs expired clock n (waits packet) = waits packet
-resentAs expired clock n gone = gone
+resentAs again clock n (flies packet sent) = flies packet clock when again n else flies packet sent
+resentAs again clock n unmade = unmade
+resentAs again clock n (waits packet) = waits packet
+resentAs again clock n gone = gone
 
 -- the chunk at a place in the row of chunks
 abbrev pub chunkAt : ℕ → ℕ → List ℕ → List ℕ
