@@ -6,3 +6,5 @@ pub mod Frees
 pub mod Acks
 pub mod Again
 pub mod Resends
+pub mod Starts
+pub mod Fetches
