@@ -52,6 +52,8 @@ pub record Acknowledges (s : Sender) (through : ℕ) (nacks : List ℕ) (clock :
   pub gives : given ≡ length (ackedOf s through nacks) ∷ []
   pub now-is : (n : ℕ) → standing (acksOf s through nacks clock .state) store n ≡ ackedAs through nacks n (standing s store n)
   pub next-is : acksOf s through nacks clock .state .next ≡ s .next
+  pub chunk-is : acksOf s through nacks clock .state .chunk ≡ s .chunk
+  pub count-is : acksOf s through nacks clock .state .count ≡ s .count
   pub clock-is : acksOf s through nacks clock .state .clock ≡ clock
   pub later : s .clock ≤ clock
   pub within : through ≤ s .next .0
@@ -127,6 +129,8 @@ module _ (s : Sender) (through : ℕ) (nacks : List ℕ) (clock : ℕ) where
           gives = cc;
           now-is = λ n. rw state-is (leave-means blank q n);
           next-is = ap (λ (x : Sender). x .next) state-is;
+          chunk-is = ap (λ (x : Sender). x .chunk) state-is;
+          count-is = ap (λ (x : Sender). x .count) state-is;
           clock-is = ap (λ (x : Sender). x .clock) state-is;
           later = passed blank q .later;
           within = passed blank q .within;

@@ -1,10 +1,13 @@
+-- How many numbers bear a mark (Counts), where a number stands (Stands), a table with one place moved in flight (Moves), with places freed (Frees) and
+-- with other times (Again); what others cite: the laws of the calls (Starts, Sends, Acks, Resends, Fetches) and of every run (Remembering).
 pub mod Counts
 pub mod Stands
 pub mod Moves
-pub mod Sends
 pub mod Frees
-pub mod Acks
 pub mod Again
-pub mod Resends
 pub mod Starts
+pub mod Sends
+pub mod Acks
+pub mod Resends
 pub mod Fetches
+pub mod Remembering

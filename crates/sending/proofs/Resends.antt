@@ -36,6 +36,8 @@ pub record GoesAgain (s : Sender) (clock : ℕ) (path : Bool) (store given : Lis
   pub gives : given ≡ resendCount s clock path ∷ []
   pub now-is : (n : ℕ) → standing (resendOf s clock path .state) store n ≡ resentAs (goesAgain s clock path) clock n (standing s store n)
   pub next-is : resendOf s clock path .state .next ≡ s .next
+  pub chunk-is : resendOf s clock path .state .chunk ≡ s .chunk
+  pub count-is : resendOf s clock path .state .count ≡ s .count
   pub clock-is : resendOf s clock path .state .clock ≡ clock
   pub later : s .clock ≤ clock
 
@@ -70,6 +72,8 @@ module _ (s : Sender) (clock : ℕ) (path : Bool) where
       stays-sound : Sound after store
       means : (n : ℕ) → standing after store n ≡ resentAs (goesAgain s clock path) clock n (standing s store n)
       next-same : after .next ≡ s .next
+      chunk-same : after .chunk ≡ s .chunk
+      count-same : after .count ≡ s .count
       clock-noted : after .clock ≡ clock
 
     module _ (later : s .clock ≤ clock) (most : clock ≤ 1000000000000000) where
@@ -83,6 +87,8 @@ module _ (s : Sender) (clock : ℕ) (path : Bool) where
                 (λ i h. omega (arith, r .past i (omega (arith, sound .marks-long)))) most due (r .timing) (r .window-some) (r .window-most);
             means = λ n. none-again (goesAgain s clock path) none clock n (standing s store n);
             next-same = refl;
+            chunk-same = refl;
+            count-same = refl;
             clock-noted = refl;
           }
 
@@ -105,6 +111,8 @@ module _ (s : Sender) (clock : ℕ) (path : Bool) where
                 most (le-leb (clock + 9000) (clock + 60000) (omega arith)) refl (fallen-least (s .window) (r .window-some)) (fallen-most (s .window) (r .window-most));
             means = λ n. rw there (resent-means s store sound (isIn (expiredOf s clock)) (fallenOf (s .window)) G.Unsampled (T.At (clock + 9000)) clock n);
             next-same = refl;
+            chunk-same = refl;
+            count-same = refl;
             clock-noted = refl;
           }
 
@@ -147,7 +155,15 @@ module _ (s : Sender) (clock : ℕ) (path : Bool) where
         (λ m q p. let z : _≡_ {A = ℕ} 0 1 = cc in absurd (omega arith))
         (λ blank q p.
         let l = left blank q in
-        record { gives = cc; now-is = l .means; next-is = l .next-same; clock-is = l .clock-noted; later = passed blank q .0 })
+        record {
+          gives = cc;
+          now-is = l .means;
+          next-is = l .next-same;
+          chunk-is = l .chunk-same;
+          count-is = l .count-same;
+          clock-is = l .clock-noted;
+          later = passed blank q .0;
+        })
 
     -- resend keeps a sound state and store sound, whatever it is given
     pub resend-sound : Sound (resendOf s clock path .state) store

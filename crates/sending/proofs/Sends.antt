@@ -40,6 +40,8 @@ pub record Departs (s : Sender) (clock : ℕ) (store output given : List ℕ) : 
   pub output-is : sendOf s clock store output .lent ≡ packet atFrontOf output
   pub now-is : (n : ℕ) → standing (sendOf s clock store output .state) store n ≡ sentAs told clock n (standing s store n)
   pub next-is : sendOf s clock store output .state .next ≡ s .next
+  pub chunk-is : sendOf s clock store output .state .chunk ≡ s .chunk
+  pub count-is : sendOf s clock store output .state .count ≡ s .count
   pub clock-is : sendOf s clock store output .state .clock ≡ clock
   pub later : s .clock ≤ clock
   pub room : length (inFlight s) < s .window
@@ -105,6 +107,8 @@ module _ (s : Sender) (clock : ℕ) (store output : List ℕ) where
           (armed (s .timer) (clock + rtoOf (s .timing))) departed-sound n
           ∙ ap (λ (k : ℕ). sentAs k clock n (standing s store n)) (there .has));
       next-is = ap (λ (x : Sender). x .next) (became .0);
+      chunk-is = ap (λ (x : Sender). x .chunk) (became .0);
+      count-is = ap (λ (x : Sender). x .count) (became .0);
       clock-is = ap (λ (x : Sender). x .clock) (became .0);
       later = left .later;
       room = omega (arith, left .open-window, in-flight-count s store sound);

@@ -90,6 +90,12 @@ module _ (first : SeqNo) (chunk count : ℕ) (store : List ℕ) where
         rw (lt-leb (first .0) n (omega arith)) (nowhere-gone (nothingStored chunk count (first .0)) store (fresh-sound width) n (omega arith) (λ i h o e. o (empty i h))))
         (decLe (first .0) n))
 
+    pub start-chunk : startOf first chunk count (length store) .state .chunk ≡ chunk
+    start-chunk = ap (λ (x : Sender). x .chunk) start-done
+
+    pub start-count : startOf first chunk count (length store) .state .count ≡ count
+    start-count = ap (λ (x : Sender). x .count) start-done
+
     pub start-next : startOf first chunk count (length store) .state .next .0 ≡ first .0
     start-next = ap (λ (x : Sender). x .next .0) start-done
 
