@@ -1,0 +1,4 @@
+-- What submit does, in the meaning's words.
+pub mod SubmittingTables
+pub mod SubmittingRules
+pub mod SubmittingStep
