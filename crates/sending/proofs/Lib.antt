@@ -2,3 +2,5 @@
 pub mod SubmittingTables
 pub mod SubmittingRules
 pub mod SubmittingStep
+pub mod SubmittingChunks
+pub mod SubmittingStored
