@@ -4,3 +4,4 @@ pub mod SubmittingRules
 pub mod SubmittingStep
 pub mod SubmittingChunks
 pub mod SubmittingStored
+pub mod Submitting
