@@ -5,3 +5,4 @@ pub mod SubmittingStep
 pub mod SubmittingChunks
 pub mod SubmittingStored
 pub mod Submitting
+pub mod SubmittingReads

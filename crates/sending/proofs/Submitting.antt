@@ -1,6 +1,6 @@
 -- Submit told by the standing of each number: what a run of calls is reasoned with, in place of the definitions' text. Assumes nothing.
 use Prim.Native.Nat.{ℕ, _+_, _-_, _≤_, _<_}
-use mathlib.Core.Path.{_≡_, refl, sym, _∙_, ap}
+use mathlib.Core.Path.{_≡_, refl, sym, _∙_}
 use mathlib.Core.Bool.{Bool, true, false, _&&_, _||_, not}
 use mathlib.Core.List.{List, [], _∷_}
 use native.Mathlib.Omega.{arith}
@@ -11,7 +11,7 @@ use Rattle.terms.specs.declared.StreamId.{StreamId}
 use Rattle.terms.specs.Ladder.{_when_else_}
 use Rattle.terms.specs.Lists.{joined}
 use Rattle.terms.proofs.Laws.{and-left, and-right}
-use Rattle.receiver.specs.Answers.{Said, refusal, values}
+use Rattle.receiver.specs.Answers.{refusal, values}
 use Rattle.receiver.specs.Rules.{rulesOf, slotFits}
 use Rattle.receiver.specs.declared.Receiver.{Receiver}
 use Rattle.receiver.proofs.Outcomes.{past}
@@ -22,7 +22,7 @@ use Rattle.places.specs.Table.{countOf}
 use Rattle.places.specs.Rules.{rules, sizesFit}
 use Rattle.places.specs.declared.Sender.{Sender}
 use Rattle.places.proofs.Facts.{sized}
-use Rattle.submit.specs.Chunks.{chunksOf, dataPacket, Stored, storedBy}
+use Rattle.submit.specs.Chunks.{chunksOf, dataPacket, storedBy}
 use Rattle.submit.specs.Submit.{freeOf, submitSaid, submitOf}
 use Rattle.sending.specs.Meaning.{unmade, standing, Sound}
 use Rattle.sending.specs.Steps.{chunkAt, chunksFrom, submittedAs, isOutside}

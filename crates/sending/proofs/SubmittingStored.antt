@@ -1,24 +1,24 @@
 -- So many packets more, one after the other: each is one packet more, and what the first made stays while the others are stored.
 -- Assumes nothing.
-use Prim.Native.Nat.{ℕ, zero, suc, _+_, _-_, _*_, _≤_, _<_}
+use Prim.Native.Nat.{ℕ, zero, suc, _+_, _-_, _≤_, _<_}
 use mathlib.Core.Path.{_≡_, refl, sym, _∙_, ap}
-use mathlib.Core.Bool.{Bool, true, false, _&&_, _||_, true≢false}
-use mathlib.Core.List.{List, [], _∷_}
-use native.Mathlib.Nat.{add-zero, zero-mul}
+use mathlib.Core.Bool.{true, _||_, true≢false}
+use mathlib.Core.List.{List}
+use native.Mathlib.Nat.{zero-mul}
 use native.Mathlib.Decide.{ℕ-discrete, decLt}
 use native.Mathlib.Omega.{arith}
 use borrow.Author.Tests.{le-leb, lt-leb, lt-ltb, le-ltb}
 use lib.Dec.{leb, ltb}
 use lib.ListN.{length, getD, take, drop, length-take}
 use Rattle.terms.proofs.Laws.{case}
-use Rattle.places.specs.Table.{_!_, placeOf}
+use Rattle.places.specs.Table.{placeOf}
 use Rattle.places.specs.declared.Sender.{Sender}
 use Rattle.places.proofs.Facts.{ruled}
 use Rattle.sender.specs.Numbers.{sizeOf, offsetOf}
 use Rattle.submit.specs.Chunks.{lowestFree, Stored, storedBy}
 use Rattle.submit.specs.Submit.{freeOf}
 use Rattle.sending.specs.Meaning.{Standing, waits, standing, Sound}
-use Rattle.sending.specs.Steps.{chunkAt, submittedAs, isOutside}
+use Rattle.sending.specs.Steps.{submittedAs, isOutside}
 use Rattle.sending.proofs.SubmittingRules.{Room, grown, laid}
 use Rattle.sending.proofs.SubmittingStep.{laid-long, joined-sound, free-less, place-next, size-next, place-stays, size-stays, next-waits, others-stand, byte-stays}
 use Rattle.sending.proofs.SubmittingChunks.{chunk-later}
