@@ -22,7 +22,7 @@ use Rattle.submit.specs.Chunks.{dataPacket}
 use Rattle.submit.specs.Submit.{submitOf}
 use Rattle.sending.specs.Meaning.{waits, standing, Sound}
 use Rattle.sending.specs.Steps.{chunkAt}
-use Rattle.sending.proofs.Submitting.{submit-done, submit-means, submit-chunk-most}
+use Rattle.sending.proofs.Submitting.{submit-done, submit-count, submit-means, submit-chunk-most}
 
 -- What our reader finds in the packet p of a number and a chunk, with the ack fields of the receiver r.
 pub record ReadsAsData (r : Receiver) (send recv : StreamId) (number : ℕ) (payload p : List ℕ) : Type 0 where
@@ -76,7 +76,8 @@ module _ (s : Sender) (r : Receiver) (send recv : StreamId) (bytes store : List 
   pub submit-reads : send .0 < 2 ^ 32 → recv .0 < 2 ^ 32
       → ReadsAsData r send recv n (chunkAt (s .chunk) (n - s .next .0) bytes) (dataPacket r send recv n (chunkAt (s .chunk) (n - s .next .0) bytes))
   submit-reads a b =
-      let d = submit-done s r send recv bytes store count done in
+      let d = submit-done s r send recv bytes store (count ∷ []) done in
+      let k = submit-count s r send recv bytes store count done in
       data-packet-reads r send recv (d .receiver-keeps) a b n (chunkAt (s .chunk) (n - s .next .0) bytes)
-      (omega (arith, d .rooms .usable))
+      (omega (arith, d .rooms .usable, k .0))
       (omega (arith, submit-chunk-most s r send recv bytes store count done (n - s .next .0), d .chunk-most))
