@@ -36,6 +36,19 @@ standing s store n =
     flies (packetOf s store n) (sentOf s n) when isFlying (markOf s n) else
     gone
 
+-- does it wait, and does it fly
+abbrev pub doesWait : Standing → Bool
+doesWait unmade = false
+doesWait (waits packet) = true
+doesWait (flies packet sent) = false
+doesWait gone = false
+
+abbrev pub doesFly : Standing → Bool
+doesFly unmade = false
+doesFly (waits packet) = false
+doesFly (flies packet sent) = true
+doesFly gone = false
+
 -- a state and a store that belong together: the table is whole, the rules hold, the sizes fit, and next has its width
 pub record Sound (s : Sender) (store : List ℕ) : Type 0 where
   pub numbers-long : length (s .numbers) ≡ 192
