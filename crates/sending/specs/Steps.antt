@@ -1,14 +1,15 @@
 -- What each call that is done makes of a number's standing. Proved of each call's definition (proofs/).
-use Prim.Native.Nat.{ℕ, _+_, _-_, _*_}
-use mathlib.Core.Bool.{Bool, true, _&&_, not}
-use mathlib.Core.List.{List}
+use Prim.Native.Nat.{ℕ, zero, suc, _+_, _-_, _*_}
+use mathlib.Core.Bool.{Bool, true, _&&_, _||_, not}
+use mathlib.Core.List.{List, [], _∷_}
 use lib.Dec.{leb, ltb, eqb}
 use lib.ListN.{take, drop}
 use Rattle.terms.specs.Ladder.{_when_else_}
 use Rattle.terms.specs.Lists.{all}
 use Rattle.receiver.specs.Answers.{Said, refusal, values}
-use Rattle.places.specs.Table.{differs}
+use Rattle.places.specs.Table.{differs, placeOf}
 use Rattle.places.specs.declared.Sender.{Sender}
+use Rattle.sender.specs.Numbers.{sizeOf, offsetOf}
 use Rattle.sender.specs.Resend.{expiredOf, isIn}
 use Rattle.sending.specs.Meaning.{Standing, unmade, waits, flies, gone}
 
@@ -50,7 +51,18 @@ resentAs again clock n gone = gone
 abbrev pub chunkAt : ℕ → ℕ → List ℕ → List ℕ
 chunkAt chunk k bytes = take chunk (drop (k * chunk) bytes)
 
+-- so many chunks of the row, from a place in it on
+abbrev pub chunksFrom : ℕ → ℕ → ℕ → List ℕ → List (List ℕ)
+chunksFrom chunk k zero bytes = []
+chunksFrom chunk k (suc count) bytes = chunkAt chunk k bytes ∷ chunksFrom chunk (suc k) count bytes
+
 -- submit: so many numbers from next on wait, each as the packet of its chunk
 abbrev pub submittedAs : (ℕ → List ℕ → List ℕ) → ℕ → ℕ → ℕ → List ℕ → ℕ → Standing → Standing
 submittedAs packet chunk next count bytes n before =
     waits (packet n (chunkAt chunk (n - next) bytes)) when leb next n && ltb n (next + count) else before
+
+-- a byte of the store, by its index, is none of a number's packet
+abbrev pub isOutside : Sender → ℕ → ℕ → Bool
+isOutside s n k =
+    let at = offsetOf (s .chunk) (placeOf (s .numbers) n) in
+    ltb k at || leb (at + sizeOf s n) k
