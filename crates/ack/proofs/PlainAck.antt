@@ -1,38 +1,27 @@
 -- The plain acknowledgement, told by its answer and by the packet as our reader reads it: what a run of calls is reasoned with, in place
 -- of the definitions' text. Assumes nothing.
 use Prim.Native.Nat.{ℕ, _*_, _^_, _≤_, _<_}
-use mathlib.Core.Path.{_≡_, refl, sym, _∙_, ap}
-use mathlib.Core.Bool.{Bool, true, false, _&&_, not}
+use mathlib.Core.Path.{_≡_, refl, sym, _∙_}
+use mathlib.Core.Bool.{Bool, true, false, not}
 use mathlib.Core.List.{List, [], _∷_}
 use native.Mathlib.Omega.{arith}
-use borrow.Author.Tests.{le-ltb, lt-ltb, leb-true, ltb-true, ltb-false, not-false}
-use lib.Dec.{leb, ltb, eqb}
+use borrow.Author.Tests.{le-ltb, ltb-true, ltb-false, not-false}
+use lib.Dec.{ltb, eqb}
 use lib.ListN.{length, take, drop}
 use lib.Seq.{take-at}
 use Rattle.terms.specs.declared.StreamId.{StreamId}
 use Rattle.terms.specs.Ladder.{_when_else_}
-use Rattle.terms.specs.Lists.{all, _atFrontOf_}
-use Rattle.terms.proofs.Laws.{rung, and-left, and-right}
-use Rattle.wire.specs.BigEndian.{numbersAt}
-use Rattle.wire.proofs.RoundTrip.{fits, number-here}
-use Rattle.packet.specs.Reading.{answered, nackCount, readOf, destinationOf, signatureOf, payloadOf}
-use Rattle.writer.specs.Writing.{packetBytes, headParts, optionParts, writeOf}
-use Rattle.writer.specs.declared.Fields.{Fields}
-use Rattle.writer.proofs.Joins.{behind, optionsLength, packet-behind}
-use Rattle.writer.proofs.ReadsBack.{Ranged, given, reads-back}
+use Rattle.terms.specs.Lists.{_atFrontOf_}
+use Rattle.terms.proofs.Laws.{rung, and-left}
+use Rattle.wire.proofs.RoundTrip.{fits}
 use Rattle.receiver.specs.Answers.{Said, refusal, values}
-use Rattle.receiver.specs.Slots.{isFree, markOf}
 use Rattle.receiver.specs.Rules.{rulesOf, slotFits, sizesFit}
-use Rattle.receiver.specs.Meaning.{standing, isMissing, Sound}
+use Rattle.receiver.specs.Meaning.{Sound}
 use Rattle.receiver.specs.declared.Receiver.{Receiver}
-use Rattle.receiver.proofs.Facts.{ruled}
 use Rattle.receiver.proofs.Outcomes.{past}
-use Rattle.ack.specs.Missing.{missingFrom, isAmong, isReceived}
-use Rattle.ack.specs.Fields.{atLeast255, fieldsFrom, ackFieldsOf, ackNacksOf, ackThroughOf}
-use Rattle.ack.specs.Acknowledge.{plainFields, plainAck, plainAckOf, acknowledgeSaid, acknowledges, acknowledgeOf}
-use Rattle.ack.proofs.Among.{all-implies}
-use Rattle.ack.proofs.Ways.{nacks-few, ack-most, ack-written}
-use Rattle.ack.proofs.Claims.{through-at-most, nacks-missing, nacks-told, absent-received}
+use Rattle.ack.specs.Acknowledge.{plainAck, plainAckOf, acknowledgeSaid, acknowledges, acknowledgeOf}
+use Rattle.ack.proofs.Ways.{ack-most}
+use Rattle.ack.proofs.Carried.{Carries, acked-reads}
 
 -- THE PACKET
 
@@ -41,13 +30,8 @@ pub at-most-1044 : (r : Receiver) (send recv : StreamId) → length (plainAckOf 
 at-most-1044 r send recv = ack-most (r .next .0) (r .highest .0) (r .marks) send recv
 
 -- The packet p is, as our reader reads it, the plain ack of the receiver r: exactly these fields and NACKs, no leftover, empty parts.
-pub record ReadsAs (r : Receiver) (send recv : StreamId) (p : List ℕ) : Type 0 where
-  pub fields-read : readOf p ≡ answered (given (plainFields (ackFieldsOf r) send recv) (length (ackNacksOf r)) 0 0 0)
-  pub count-read : nackCount p ≡ length (ackNacksOf r)
-  pub nacks-read : numbersAt 4 (nackCount p) 17 p ≡ ackNacksOf r
-  pub no-destination : destinationOf p ≡ []
-  pub no-signature : signatureOf p ≡ []
-  pub no-payload : payloadOf p ≡ []
+abbrev pub ReadsAs : Receiver → StreamId → StreamId → List ℕ → Type 0
+ReadsAs r send recv p = Carries r send recv 0 [] p
 
 -- A written ack: the state kept the rules and its slot size was in range, the output had room, n is the packet's length, and the packet
 -- stands at the output's front.
@@ -62,71 +46,11 @@ only-7 : (t : Bool) (m n : ℕ) → (refusal 7 when t else values (m ∷ [])) �
 only-7 true m n e = cc
 only-7 false m n e = let z : _≡_ {A = ℕ} 0 1 = cc in absurd (omega arith)
 
--- the count of NACKs, where it stands
-count-here : (f : Fields) (nacks : List ℕ) → length nacks ≤ 255 → nackCount (packetBytes f nacks [] [] []) ≡ length nacks
-count-here f nacks few =
-    let rest = behind (drop 5 (headParts f nacks (optionsLength f [] []))) (behind (optionParts f [] []) []) in
-    number-here 1 (length nacks) 16 (packetBytes f nacks [] [] []) rest (omega arith) (ap (drop 16) (packet-behind f nacks [] [] []))
-
 module _ (r : Receiver) (send recv : StreamId) where
-  module _ (keeps : rulesOf r ≡ true) where
-    -- the numbers fit their widths
-    ranged : send .0 < 2 ^ 32 → recv .0 < 2 ^ 32 → Ranged (plainFields (ackFieldsOf r) send recv)
-    unfolding fieldsFrom
-    ranged s t =
-        let k = ruled (r .slot) (r .next .0) (r .highest .0) (r .marks) keeps in
-        let choked = atLeast255 (missingFrom (r .next .0) (r .highest .0) (r .marks)) in
-        record {
-          send-fits = s;
-          recv-fits = t;
-          seq-fits = omega arith;
-          ack-fits = omega (arith, through-at-most r, k .last);
-          resend-fits = omega arith;
-          flags-fit = rung (λ (x : ℕ). x < 2 ^ 16) choked (λ e. omega arith) (λ e. omega arith);
-          delay-fits = rung (λ (x : ℕ). x < 2 ^ 16) choked (λ e. omega arith) (λ e. omega arith);
-          max-fits = omega arith;
-        }
-
-    nacks-fit : all (fits 4) (ackNacksOf r) ≡ true
-    nacks-fit =
-        let k = ruled (r .slot) (r .next .0) (r .highest .0) (r .marks) keeps in
-        all-implies (isMissing r) (fits 4) (ackNacksOf r)
-        (λ n h.
-        let up = and-left (leb n (r .highest .0)) (isFree (markOf (r .marks) n)) (and-right (leb (r .next .0) n) (leb n (r .highest .0) && isFree (markOf (r .marks) n)) h) in
-        lt-ltb n (256 ^ 4) (omega (arith, leb-true n (r .highest .0) up, k .last)))
-        (nacks-missing r)
-
-    written-fits : writeOf (plainFields (ackFieldsOf r) send recv) (ackNacksOf r) [] [] [] 1044 .refusal ≡ 0
-    written-fits = rw (ack-written (r .next .0) (r .highest .0) (r .marks) send recv 1044, le-ltb 1044 (length (plainAckOf r send recv)) (at-most-1044 r send recv))
-
-    -- The plain ack of a receiver that keeps the rules reads as that receiver's ack.
-    pub plain-ack-reads : send .0 < 2 ^ 32 → recv .0 < 2 ^ 32 → ReadsAs r send recv (plainAckOf r send recv)
-    unfolding plainAck
-    plain-ack-reads s t =
-        let f = plainFields (ackFieldsOf r) send recv in
-        let count = count-here f (ackNacksOf r) (nacks-few (r .next .0) (r .highest .0) (r .marks)) in
-        let back = reads-back f (ackNacksOf r) [] [] [] 1044 (ranged s t) nacks-fit written-fits in
-        record {
-          fields-read = back .fields-back;
-          count-read = count;
-          nacks-read = rw count (back .nacks-back);
-          no-destination = back .destination-back;
-          no-signature = back .signature-back;
-          no-payload = back .payload-back;
-        }
-
-  -- In the packet's own bytes: a number up to its ack-through is among its NACKs exactly if it is missing, ..
-  module _ (p : List ℕ) (reads : ReadsAs r send recv p) where
-    pub through-read : readOf p .values .«ack_through» .0 ≡ ackThroughOf r
-    through-read = rw (reads .fields-read)
-
-    pub nacks-claim : (n : ℕ) → n ≤ readOf p .values .«ack_through» .0 → isAmong n (numbersAt 4 (nackCount p) 17 p) ≡ isMissing r n
-    nacks-claim n up = rw (reads .nacks-read) (nacks-told r n (omega (arith, through-read)))
-
-    -- .. and absent from them exactly if it is taken, at most the s that the start came after, or held.
-    pub absence-claims : (store : List ℕ) (n : ℕ) → n ≤ readOf p .values .«ack_through» .0
-        → not (isAmong n (numbersAt 4 (nackCount p) 17 p)) ≡ isReceived (standing r store n)
-    absence-claims store n up = rw (reads .nacks-read) (absent-received r store n (omega (arith, through-read)))
+  -- The plain ack of a receiver that keeps the rules reads as that receiver's ack.
+  pub plain-ack-reads : rulesOf r ≡ true → send .0 < 2 ^ 32 → recv .0 < 2 ^ 32 → ReadsAs r send recv (plainAckOf r send recv)
+  unfolding plainAck
+  plain-ack-reads keeps s t = acked-reads r send recv keeps 0 [] s t (omega arith) (omega arith)
 
   -- THE CALL
 

@@ -20,7 +20,8 @@ use Rattle.receiver.proofs.Laws.{slot-fits}
 use Rattle.ack.specs.Missing.{isAmong, isReceived}
 use Rattle.ack.specs.Fields.{ackNacksOf}
 use Rattle.ack.specs.Acknowledge.{plainAckOf}
-use Rattle.ack.proofs.PlainAck.{ReadsAs, acknowledge-reads, absence-claims, acknowledge-written, acknowledge-enough, at-most-1044}
+use Rattle.ack.proofs.Carried.{absence-claims}
+use Rattle.ack.proofs.PlainAck.{ReadsAs, acknowledge-reads, acknowledge-written, acknowledge-enough, at-most-1044}
 use Rattle.delivery.specs.Runs.{Run, endOf}
 use Rattle.delivery.specs.Delivered.{Taken, Held, throughIn, nacksIn, ackOf, packetOf, Honest, NothingHidden}
 use Rattle.delivery.proofs.Pieces.{by-first}

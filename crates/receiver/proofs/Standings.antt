@@ -1,4 +1,4 @@
--- The standing of a number, from where it lies and what its mark says; and the bytes of one slot when another is filled. Assumes nothing.
+-- The standing of a number, from where it lies and what its mark says; and the bytes of a list when others are laid into it. Assumes nothing.
 use Prim.Native.Nat.{ℕ, _+_, _-_, _%_, _≤_, _<_, min}
 use mathlib.Core.Path.{_≡_, refl, sym, _∙_, ap}
 use mathlib.Core.List.{List, _++_}
@@ -43,39 +43,46 @@ part-same l m from to e f =
     let h' : i < to - from = omega arith in
     getD-take (to - from) (drop from l) i 0 h' ∙ getD-drop from l i 0 ∙ f (from + i) (omega arith) (omega arith) ∙ sym (getD-take (to - from) (drop from m) i 0 h' ∙ getD-drop from m i 0))
 
+-- a list with bytes laid into it from an index on
+module _ (l : List ℕ) (at : ℕ) (bytes : List ℕ) (fits : at + length bytes ≤ length l) where
+  pub laid-length : length (take at l ++ (bytes atFrontOf drop at l)) ≡ length l
+  laid-length = simp (length-append, length-take, length-drop) (omega arith)
+
+  -- what was laid stands there
+  pub laid-here : part (take at l ++ (bytes atFrontOf drop at l)) at (at + length bytes) ≡ bytes
+  laid-here =
+      let long : length (take at l) ≡ at = length-take-le at l (omega arith) in
+      let e : at + length bytes - at ≡ length bytes = omega arith in
+      rw (e, drop-at (take at l) (bytes atFrontOf drop at l) at long) (take-at bytes (drop (length bytes) (drop at l)) (length bytes) refl)
+
+  -- and nothing else was touched
+  pub laid-before : (k : ℕ) → k < at → getD (take at l ++ (bytes atFrontOf drop at l)) k 0 ≡ getD l k 0
+  laid-before k h =
+      List·getD-append (take at l) (bytes atFrontOf drop at l) 0 k (omega (arith, length-take-le at l (omega arith)))
+      ∙ getD-take at l k 0 h
+
+  pub laid-after : (k : ℕ) → at + length bytes ≤ k → getD (take at l ++ (bytes atFrontOf drop at l)) k 0 ≡ getD l k 0
+  laid-after k h =
+      let front = take at l in
+      let back = drop (length bytes) (drop at l) in
+      let j = k - (at + length bytes) in
+      let long : length front ≡ at = length-take-le at l (omega arith) in
+      let e : k ≡ length front + (length bytes + j) = omega (arith, long) in
+      let f : at + (length bytes + j) ≡ k = omega arith in
+      ap (λ (i : ℕ). getD (front ++ (bytes ++ back)) i 0) e
+      ∙ getD-append-add front (bytes ++ back) (length bytes + j) 0
+      ∙ getD-append-add bytes back j 0
+      ∙ getD-drop (length bytes) (drop at l) j 0
+      ∙ getD-drop at l (length bytes + j) 0
+      ∙ ap (λ (i : ℕ). getD l i 0) f
+
 module _ (store : List ℕ) (slot number : ℕ) (payload : List ℕ) (fits : offsetOf slot number + length payload ≤ length store) where
   pub filled-length : length (filled store slot number payload) ≡ length store
-  filled-length = simp (length-append, length-take, length-drop) (omega arith)
+  filled-length = laid-length store (offsetOf slot number) payload fits
 
   -- what was stored stands at the front of its slot
   pub filled-here : part (filled store slot number payload) (offsetOf slot number) (offsetOf slot number + length payload) ≡ payload
-  filled-here =
-      let l : length (take (offsetOf slot number) store) ≡ offsetOf slot number = length-take-le (offsetOf slot number) store (omega arith) in
-      let e : offsetOf slot number + length payload - offsetOf slot number ≡ length payload = omega arith in
-      rw (e, drop-at (take (offsetOf slot number) store) (payload atFrontOf drop (offsetOf slot number) store) (offsetOf slot number) l)
-      (take-at payload (drop (length payload) (drop (offsetOf slot number) store)) (length payload) refl)
-
-  before : (k : ℕ) → k < offsetOf slot number → getD (filled store slot number payload) k 0 ≡ getD store k 0
-  before k h =
-      List·getD-append (take (offsetOf slot number) store) (payload atFrontOf drop (offsetOf slot number) store) 0 k
-      (omega (arith, length-take-le (offsetOf slot number) store (omega arith)))
-      ∙ getD-take (offsetOf slot number) store k 0 h
-
-  after : (k : ℕ) → offsetOf slot number + length payload ≤ k → getD (filled store slot number payload) k 0 ≡ getD store k 0
-  after k h =
-      let at = offsetOf slot number in
-      let front = take at store in
-      let back = drop (length payload) (drop at store) in
-      let j = k - (at + length payload) in
-      let l : length front ≡ at = length-take-le at store (omega arith) in
-      let e : k ≡ length front + (length payload + j) = omega (arith, l) in
-      let f : at + (length payload + j) ≡ k = omega arith in
-      ap (λ (i : ℕ). getD (front ++ (payload ++ back)) i 0) e
-      ∙ getD-append-add front (payload ++ back) (length payload + j) 0
-      ∙ getD-append-add payload back j 0
-      ∙ getD-drop (length payload) (drop at store) j 0
-      ∙ getD-drop at store (length payload + j) 0
-      ∙ ap (λ (i : ℕ). getD store i 0) f
+  filled-here = laid-here store (offsetOf slot number) payload fits
 
   -- every other slot is as it was
   pub filled-other : (m size : ℕ) → size ≤ slot → length payload ≤ slot → (m % 512 ≡ number % 512 → ⊥)
@@ -84,8 +91,8 @@ module _ (store : List ℕ) (slot number : ℕ) (payload : List ℕ) (fits : off
       part-same (filled store slot number payload) store (offsetOf slot m) (offsetOf slot m + size) filled-length
       (λ k a b.
       case
-      (λ (q : m % 512 < number % 512). before k (omega (arith, mul-le-mul-right slot q)))
+      (λ (q : m % 512 < number % 512). laid-before store (offsetOf slot number) payload fits k (omega (arith, mul-le-mul-right slot q)))
       (λ (q : m % 512 < number % 512 → ⊥).
       let q' : number % 512 + 1 ≤ m % 512 = omega (arith, apart) in
-      after k (omega (arith, mul-le-mul-right slot q')))
+      laid-after store (offsetOf slot number) payload fits k (omega (arith, mul-le-mul-right slot q')))
       (decLt (m % 512) (number % 512)))

@@ -35,7 +35,7 @@ use Rattle.sender.proofs.Outcomes.{run-passes, run-below, clock-fair}
 
 -- a number is in a run where it passes and lies within it, and else not
 module _ (p : ℕ → Bool) (n : ℕ) where
-  in-run : (count from : ℕ) → from ≤ n → n < from + count → p n ≡ true → all (differs n) (run p from count) ≡ false
+  pub in-run : (count from : ℕ) → from ≤ n → n < from + count → p n ≡ true → all (differs n) (run p from count) ≡ false
   unfolding run
   in-run zero from a b t = absurd (omega arith)
   in-run (suc count) from a b t =
@@ -47,7 +47,7 @@ module _ (p : ℕ → Bool) (n : ℕ) where
       (λ _. in-run count (suc from) (omega (arith, o)) (omega arith) t))
       (ℕ-discrete from n)
 
-  not-in : (count from : ℕ) → (p n ≡ true → n < from + count → ⊥) → all (differs n) (run p from count) ≡ true
+  pub not-in : (count from : ℕ) → (p n ≡ true → n < from + count → ⊥) → all (differs n) (run p from count) ≡ true
   not-in count from f =
       all-of (differs n) (run p from count)
       (λ k h. rw (ne-eqb (run p from count ! k) n (λ e. f (sym (ap p e) ∙ run-passes p count from k h) (omega (arith, run-below p count from k h)))))

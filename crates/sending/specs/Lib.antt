@@ -1,2 +1,4 @@
 pub mod Meaning
 pub mod Steps
+pub mod Runs
+pub mod Remembers

@@ -3,6 +3,7 @@ use Prim.Native.Nat.{ℕ, _<_}
 use mathlib.Core.Path.{_≡_}
 use mathlib.Core.Bool.{Bool, true, false}
 use mathlib.Core.List.{List}
+use mathlib.Core.Option.{Option, none, some}
 use lib.Dec.{leb}
 use lib.ListN.{length}
 use Rattle.terms.specs.Ladder.{_when_else_}
@@ -35,6 +36,26 @@ standing s store n =
     waits (packetOf s store n) when isWaiting (markOf s n) else
     flies (packetOf s store n) (sentOf s n) when isFlying (markOf s n) else
     gone
+
+-- the packet of a number that waits or flies
+abbrev pub packetIn : Standing → Option (List ℕ)
+packetIn unmade = none
+packetIn (waits packet) = some packet
+packetIn (flies packet sent) = some packet
+packetIn gone = none
+
+-- does it wait, and does it fly
+abbrev pub doesWait : Standing → Bool
+doesWait unmade = false
+doesWait (waits packet) = true
+doesWait (flies packet sent) = false
+doesWait gone = false
+
+abbrev pub doesFly : Standing → Bool
+doesFly unmade = false
+doesFly (waits packet) = false
+doesFly (flies packet sent) = true
+doesFly gone = false
 
 -- a state and a store that belong together: the table is whole, the rules hold, the sizes fit, and next has its width
 pub record Sound (s : Sender) (store : List ℕ) : Type 0 where
