@@ -115,6 +115,8 @@ length-fair size e =
 -- what holds where packets are made
 pub record Made (s : Sender) (r : Receiver) (size storeLength : ℕ) (given : List ℕ) : Type 0 where
   pub keeps : rulesOf r ≡ true
+  pub size-some : 1 ≤ size
+  pub chunk-some : 1 ≤ s .chunk
   pub roomy : Roomy s (chunksOf (s .chunk) size) storeLength
   pub is : values (chunksOf (s .chunk) size ∷ []) ≡ values given
 
@@ -132,6 +134,8 @@ made s r size storeLength given h =
     let last = leb-false 4294967295 (s .next .0 + (n - 1)) (p20 .0) in
     record {
       keeps = and-right (rules s) (rulesOf r) (not-false _ (p11 .0));
+      size-some = length-fair size (p19 .0) .0;
+      chunk-some = z .counts .chunk-some;
       roomy = record {
         chunk-most = z .counts .chunk-most;
         count-most = z .counts .count-most;
