@@ -6,14 +6,13 @@ use mathlib.Core.Bool.{Bool, true, false, _&&_, not}
 use mathlib.Core.List.{List, [], _∷_}
 use native.Mathlib.Omega.{arith}
 use borrow.Author.Tests.{eqb-true, ltb-false}
-use lib.Dec.{leb, ltb}
+use lib.Dec.{ltb}
 use lib.ListN.{length}
 use Rattle.terms.specs.Ladder.{_when_else_}
-use Rattle.terms.specs.Lists.{all}
 use Rattle.receiver.specs.Answers.{refusal, values}
 use Rattle.receiver.proofs.Laws.{by-said}
 use Rattle.receiver.proofs.Outcomes.{past}
-use Rattle.places.specs.Table.{isFlying, differs, placeOf}
+use Rattle.places.specs.Table.{isFlying, placeOf}
 use Rattle.places.specs.Rules.{rules, countsFit}
 use Rattle.places.specs.Start.{Outcome}
 use Rattle.places.specs.declared.Sender.{Sender}
@@ -22,7 +21,7 @@ use Rattle.sender.specs.Acks.{ackedAt, ackedOf, acksRefusal, sampleOf, timedBy,
 use Rattle.sender.specs.Resend.{isIn}
 use Rattle.sender.proofs.Outcomes.{clock-fair}
 use Rattle.sending.specs.Meaning.{markOf, standing, doesFly, Sound}
-use Rattle.sending.specs.Steps.{isFair, ackedAs}
+use Rattle.sending.specs.Steps.{isFair, isNamed, ackedAs}
 use Rattle.sending.proofs.Counts.{by-bool, fair-rung, run-has}
 use Rattle.sending.proofs.Stands.{facts, marked-is, flies-told, counts-fit}
 use Rattle.sending.proofs.Moves.{later-fits}
@@ -30,15 +29,15 @@ use Rattle.sending.proofs.Frees.{timed-fits, grown-fits, freed-sound, f
 
 -- acknowledged are the numbers that fly, are at most ack-through and not NACKed
 pub acked-is : (s : Sender) (store : List ℕ) → Sound s store → (through : ℕ) (nacks : List ℕ) (n : ℕ)
-    → isIn (ackedOf s through nacks) n ≡ (doesFly (standing s store n) && (leb n through && all (differs n) nacks))
+    → isIn (ackedOf s through nacks) n ≡ (doesFly (standing s store n) && isNamed through nacks n)
 acked-is s store sound through nacks n =
     let place = placeOf (s .numbers) n in
     run-has (λ m. ackedAt (s .numbers) (s .marks) through nacks (placeOf (s .numbers) m)) (s .next .0) n
     ∙ by-bool (isFlying (markOf s n))
     (λ t.
     let is = marked-is s store sound n (λ z. let e = eqb-true (markOf s n) 2 t in omega arith) in
-    rw (← flies-told s store n, t, is) (shorter (ltb n (s .next .0)) (leb n through && all (differs n) nacks)))
-    (λ f. rw (← flies-told s store n, f) (none (ltb n (s .next .0)) (leb n through && all (differs n) nacks))) where
+    rw (← flies-told s store n, t, is) (shorter (ltb n (s .next .0)) (isNamed through nacks n)))
+    (λ f. rw (← flies-told s store n, f) (none (ltb n (s .next .0)) (isNamed through nacks n))) where
       shorter : (a c : Bool) → (a && c) ≡ ((a && true) && c)
       shorter true c = refl
       shorter false c = refl

@@ -5,14 +5,12 @@ use mathlib.Core.Bool.{Bool, true, false, _&&_, true≢false}
 use mathlib.Core.List.{List, [], _∷_}
 use native.Mathlib.Omega.{arith}
 use borrow.Author.Tests.{eqb-true}
-use lib.Dec.{leb}
 use lib.ListN.{length}
-use Rattle.terms.specs.Lists.{all}
 use Rattle.terms.proofs.Laws.{and-left, and-right}
 use Rattle.timer.specs.Timer.{timingFits}
 use Rattle.timer.specs.declared.Timing.{Timing}
 use Rattle.timer.proofs.Laws.{sampled-fits, grown-least, grown-most}
-use Rattle.places.specs.Table.{_!_, isFlying, differs}
+use Rattle.places.specs.Table.{_!_, isFlying}
 use Rattle.places.specs.Rules.{timerFits}
 use Rattle.places.specs.declared.Sender.{Sender}
 use Rattle.places.proofs.Facts.{Ruled, rules-of}
@@ -20,7 +18,7 @@ use Rattle.sender.specs.Numbers.{replaced}
 use Rattle.sender.specs.Acks.{ackedAt, timedBy, grownBy, freedBy}
 use Rattle.sender.proofs.Tables.{replaced-length, replaced-at}
 use Rattle.sending.specs.Meaning.{Standing, unmade, waits, flies, gone, standing, doesFly, Sound}
-use Rattle.sending.specs.Steps.{ackedAs}
+use Rattle.sending.specs.Steps.{isNamed, ackedAs}
 use Rattle.sending.proofs.Counts.{by-bool, count-freed}
 use Rattle.sending.proofs.Stands.{flies-at, at-same, unmade-from, facts, one-place, where-is, nowhere-gone, stands-at, flies-mark}
 
@@ -125,7 +123,7 @@ module _ (s : Sender) (store : List ℕ) (sound : Sound s store) (pass : ℕ →
   }
 
 -- what flies no more, and what stays
-stays : (through : ℕ) (nacks : List ℕ) (n : ℕ) (x : Standing) → (doesFly x ≡ true → (leb n through && all (differs n) nacks) ≡ false) → ackedAs through nacks n x ≡ x
+stays : (through : ℕ) (nacks : List ℕ) (n : ℕ) (x : Standing) → (doesFly x ≡ true → isNamed through nacks n ≡ false) → ackedAs through nacks n x ≡ x
 stays through nacks n unmade f = refl
 stays through nacks n (waits packet) f = refl
 stays through nacks n (flies packet sent) f = rw (f refl)
@@ -151,7 +149,7 @@ module _ (s : Sender) (store : List ℕ) (sound : Sound s store) (through : ℕ)
       by-bool (pass i)
       (λ p.
       let flew = eqb-true (s .marks ! i) 2 (and-left (isFlying (s .marks ! i)) _ p) in
-      let heard = and-right (isFlying (s .marks ! i)) (leb (s .numbers ! i) through && all (differs (s .numbers ! i)) nacks) p in
+      let heard = and-right (isFlying (s .marks ! i)) (isNamed through nacks (s .numbers ! i)) p in
       rw (← e)
       (nowhere-gone t store after (s .numbers ! i) (facts s store sound .low i (omega (arith, sound .marks-long)) o)
       (λ j k u q.

@@ -2,22 +2,20 @@
 -- what is gone, and only acks that are done make a number gone that they name. Told by the calls' laws alone. Assumes nothing.
 use Prim.Native.Nat.{ℕ, _<_, _^_}
 use mathlib.Core.Path.{_≡_, refl, sym, _∙_}
-use mathlib.Core.Bool.{Bool, true, false, _&&_, _||_}
+use mathlib.Core.Bool.{Bool, true, false, _||_}
 use mathlib.Core.List.{List, [], _∷_}
 use mathlib.Core.Logic.{_⊎_, inl, inr, ⊎-elim}
 use native.Mathlib.Omega.{arith}
 use borrow.Author.Tests.{le-leb, lt-leb, ltb-true}
-use lib.Dec.{leb, eqb}
+use lib.Dec.{eqb}
 use lib.ListN.{length}
-use Rattle.terms.specs.Lists.{all}
 use Rattle.terms.proofs.Laws.{and-both}
 use Rattle.receiver.proofs.Laws.{by-said}
-use Rattle.places.specs.Table.{differs}
 use Rattle.sender.specs.Send.{sendOf}
 use Rattle.sender.specs.Acks.{acksOf}
 use Rattle.sender.specs.Resend.{resendOf}
 use Rattle.sending.specs.Meaning.{Standing, unmade, waits, flies, gone, standing, Sound}
-use Rattle.sending.specs.Steps.{isFair, sentAs, ackedAs, goesAgain, resentAs}
+use Rattle.sending.specs.Steps.{isFair, isNamed, sentAs, ackedAs, goesAgain, resentAs}
 use Rattle.sending.specs.Runs.{Call, send, acks, resend, fetch, Kept, stepOf, keptAfter, eventsOf, Run, begun}
 use Rattle.sending.specs.Remembers.{allFair, namedBy, namedIn, Remembers}
 use Rattle.sending.proofs.Counts.{by-bool}
@@ -73,11 +71,11 @@ resent-gone p clock n (flies packet sent) e =
     (λ t. let f = rw t at e in let z : _≡_ {A = ℕ} 0 1 = cc in absurd (omega arith))
 resent-gone p clock n gone e = refl
 
-acked-gone : (through : ℕ) (nacks : List ℕ) (n : ℕ) (x : Standing) → ackedAs through nacks n x ≡ gone → (x ≡ gone) ⊎ ((leb n through && all (differs n) nacks) ≡ true)
+acked-gone : (through : ℕ) (nacks : List ℕ) (n : ℕ) (x : Standing) → ackedAs through nacks n x ≡ gone → (x ≡ gone) ⊎ (isNamed through nacks n ≡ true)
 acked-gone through nacks n unmade e = inl e
 acked-gone through nacks n (waits packet) e = inl e
 acked-gone through nacks n (flies packet sent) e =
-    by-bool (leb n through && all (differs n) nacks) inr
+    by-bool (isNamed through nacks n) inr
     (λ t. let f = rw t at e in let z : _≡_ {A = ℕ} 0 1 = cc in absurd (omega arith))
 acked-gone through nacks n gone e = inl refl
 

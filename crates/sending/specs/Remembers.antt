@@ -3,13 +3,10 @@ use Prim.Native.Nat.{ℕ, _≤_, _<_}
 use mathlib.Core.Path.{_≡_}
 use mathlib.Core.Bool.{Bool, true, false, _&&_, _||_}
 use mathlib.Core.List.{List, [], _∷_}
-use lib.Dec.{leb}
 use lib.ListN.{length}
-use Rattle.terms.specs.Lists.{all}
 use Rattle.receiver.specs.Answers.{Said, refusal, values}
-use Rattle.places.specs.Table.{differs}
 use Rattle.sending.specs.Meaning.{gone, standing, Sound}
-use Rattle.sending.specs.Steps.{isFair}
+use Rattle.sending.specs.Steps.{isFair, isNamed}
 use Rattle.sending.specs.Runs.{Call, send, acks, resend, fetch, Event, Run, historyOf, endOf}
 
 -- no call was refused for the state's rules or the sizes
@@ -17,9 +14,9 @@ abbrev pub allFair : List Event → Bool
 allFair [] = true
 allFair (e ∷ rest) = isFair (e .answered) && allFair rest
 
--- acks that were done named a number: at most ack-through, and not NACKed
+-- acks that were done named a number
 abbrev pub namedBy : ℕ → Call → Said → Bool
-namedBy n (acks through nacks clock) (values given) = leb n through && all (differs n) nacks
+namedBy n (acks through nacks clock) (values given) = isNamed through nacks n
 namedBy n (acks through nacks clock) (refusal why) = false
 namedBy n (send clock output) says = false
 namedBy n (resend clock path) says = false

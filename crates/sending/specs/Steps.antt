@@ -25,9 +25,13 @@ sentAs told clock n unmade = unmade
 sentAs told clock n (flies packet sent) = flies packet sent
 sentAs told clock n gone = gone
 
--- acks: what is in flight, at most ack-through and not NACKed, is gone
+-- an acknowledgement names a number: it is at most ack-through, and not NACKed
+abbrev pub isNamed : ℕ → List ℕ → ℕ → Bool
+isNamed through nacks n = leb n through && all (differs n) nacks
+
+-- acks: what is in flight and named is gone
 abbrev pub ackedAs : ℕ → List ℕ → ℕ → Standing → Standing
-ackedAs through nacks n (flies packet sent) = gone when leb n through && all (differs n) nacks else flies packet sent
+ackedAs through nacks n (flies packet sent) = gone when isNamed through nacks n else flies packet sent
 ackedAs through nacks n unmade = unmade
 ackedAs through nacks n (waits packet) = waits packet
 ackedAs through nacks n gone = gone
