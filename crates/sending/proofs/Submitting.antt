@@ -1,6 +1,6 @@
 -- Submit told by the standing of each number: what a run of calls is reasoned with, in place of the definitions' text. Assumes nothing.
 use Prim.Native.Nat.{ℕ, _+_, _-_, _≤_, _<_}
-use mathlib.Core.Path.{_≡_, refl, sym, _∙_}
+use mathlib.Core.Path.{_≡_, refl, sym, _∙_, ap}
 use mathlib.Core.Bool.{_||_, not, true}
 use mathlib.Core.List.{List, [], _∷_}
 use native.Mathlib.Decide.{decLe}
@@ -65,7 +65,7 @@ module _ (s : Sender) (r : Receiver) (send recv : StreamId) (bytes store : List 
     asked = submit-done (count ∷ []) done
 
     count-is : count ≡ chunksOf (s .chunk) (length bytes)
-    count-is = let e = asked .is in cc
+    count-is = let e = asked .gives in cc
 
     stored-is : (submitOf s r send recv bytes store .state ≡ storedBy (dataPacket r send recv) count bytes s store .state)
         × (submitOf s r send recv bytes store .lent ≡ storedBy (dataPacket r send recv) count bytes s store .store)
@@ -104,7 +104,7 @@ module _ (s : Sender) (r : Receiver) (send recv : StreamId) (bytes store : List 
 
       pub submit-means : (n : ℕ) → standing (submitOf s r send recv bytes store .state) (submitOf s r send recv bytes store .lent) n
           ≡ submittedAs (dataPacket r send recv) (s .chunk) (s .next .0) count bytes n (standing s store n)
-      submit-means = submit-stores .now-is
+      submit-means = submit-stores .means
 
       -- A byte of the store that is none of the new packets' is as it was.
       pub submit-only-its-bytes : (k : ℕ) → ((n : ℕ) → s .next .0 ≤ n → n < s .next .0 + count → isOutside (submitOf s r send recv bytes store .state) n k ≡ true)
@@ -116,7 +116,7 @@ module _ (s : Sender) (r : Receiver) (send recv : StreamId) (bytes store : List 
   submit-sound sound =
       by-said (submitOf s r send recv bytes store .says)
       (λ n e. rw (submit-refused n e .0, submit-refused n e .1) sound)
-      (λ given e. let i = submit-done given e .is in submit-keeps (chunksOf (s .chunk) (length bytes)) (e ∙ sym i) sound)
+      (λ given e. submit-keeps (chunksOf (s .chunk) (length bytes)) (e ∙ ap values (submit-done given e .gives)) sound)
 
   -- Its answer in such a state: the receiver alone may be at fault, and 21 is given exactly if a number waits.
   pub submit-answer : Sound s store → submitOf s r send recv bytes store .says

@@ -38,7 +38,7 @@ pub record Stores (packet : ℕ → List ℕ → List ℕ) (count : ℕ) (bytes 
   pub timing-is : after .state .timing ≡ s .timing
   pub timer-is : after .state .timer ≡ s .timer
   pub clock-is : after .state .clock ≡ s .clock
-  pub now-is : (n : ℕ) → standing (after .state) (after .store) n ≡ submittedAs packet (s .chunk) (s .next .0) count bytes n (standing s store n)
+  pub means : (n : ℕ) → standing (after .state) (after .store) n ≡ submittedAs packet (s .chunk) (s .next .0) count bytes n (standing s store n)
   pub place-is : (n : ℕ) → (n ≡ 0 → ⊥) → n < s .next .0 → placeOf (after .state .numbers) n ≡ placeOf (s .numbers) n
   pub size-is : (n : ℕ) → (n ≡ 0 → ⊥) → n < s .next .0 → sizeOf (after .state) n ≡ sizeOf s n
   pub long : length (after .store) ≡ length store
@@ -90,7 +90,7 @@ module _ (packet : ℕ → List ℕ → List ℕ) where
     timing-is = refl;
     timer-is = refl;
     clock-is = refl;
-    now-is = λ n. means-none packet (s .chunk) (s .next .0) 0 bytes n (standing s store n);
+    means = λ n. means-none packet (s .chunk) (s .next .0) 0 bytes n (standing s store n);
     place-is = λ n some below. refl;
     size-is = λ n some below. refl;
     long = refl;
@@ -111,8 +111,8 @@ module _ (packet : ℕ → List ℕ → List ℕ) where
           timing-is = rest .timing-is;
           timer-is = rest .timer-is;
           clock-is = rest .clock-is;
-          now-is = λ n.
-              rest .now-is n
+          means = λ n.
+              rest .means n
               ∙ means-more packet (s .chunk) (s .next .0) left bytes n (standing s store n) (standing (grown s made) (laid s made store) n)
               (λ e. rw (← e) (next-waits s store sound made room ∙ ap waits is))
               (λ o. others-stand s store sound made room n o);

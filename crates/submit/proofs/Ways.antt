@@ -118,7 +118,7 @@ pub record Made (s : Sender) (r : Receiver) (size storeLength : ℕ) (given : Li
   pub size-some : 1 ≤ size
   pub chunk-some : 1 ≤ s .chunk
   pub roomy : Roomy s (chunksOf (s .chunk) size) storeLength
-  pub is : values (chunksOf (s .chunk) size ∷ []) ≡ values given
+  pub gives : given ≡ chunksOf (s .chunk) size ∷ []
 
 pub made : (s : Sender) (r : Receiver) (size storeLength : ℕ) (given : List ℕ) → submitSaid s r size storeLength ≡ values given → Made s r size storeLength given
 unfolding submitSaid
@@ -143,7 +143,7 @@ made s r size storeLength given h =
         free = ltb-false (freeOf s) n (p18 .0);
         numbered = omega arith;
       };
-      is = p18 .1;
+      gives = let e = p18 .1 in cc;
     }
 
 -- THE OUTCOME
@@ -161,7 +161,7 @@ module _ (s : Sender) (r : Receiver) (send recv : StreamId) (bytes store : List 
     told = sym judged ∙ ap saidTally is
 
     counted : chunksOf (s .chunk) (length bytes) ≡ packets
-    counted = let e = made s r (length bytes) (length store) (packets ∷ []) told .is in cc
+    counted = let e = made s r (length bytes) (length store) (packets ∷ []) told .gives in cc
 
     pub submit-asks : (rulesOf r ≡ true) × Roomy s packets (length store)
     submit-asks = let m = made s r (length bytes) (length store) (packets ∷ []) told in (m .keeps, rw counted at (m .roomy))
