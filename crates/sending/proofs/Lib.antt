@@ -1,6 +1,7 @@
 -- How many numbers bear a mark (Counts), where a number stands (Stands), a table with one place moved in flight (Moves), with places freed (Frees) and
 -- with other times (Again); the chunks, one packet more and a row of packets (Submitting..); what others cite: the laws of the calls (Starts, Submitting,
--- SubmittingReads, Sends, Acks, Resends, Fetches) and of every run (Remembering).
+-- SubmittingReads, Sends, Acks, Resends, Fetches) and of every run (Remembering, by what may become of a standing, Lives, and by one call after
+-- another, Goes).
 pub mod Counts
 pub mod Stands
 pub mod Moves
@@ -18,4 +19,6 @@ pub mod Sends
 pub mod Acks
 pub mod Resends
 pub mod Fetches
+pub mod Lives
+pub mod Goes
 pub mod Remembering

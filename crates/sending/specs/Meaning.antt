@@ -3,6 +3,7 @@ use Prim.Native.Nat.{ℕ, _<_}
 use mathlib.Core.Path.{_≡_}
 use mathlib.Core.Bool.{Bool, true, false}
 use mathlib.Core.List.{List}
+use mathlib.Core.Option.{Option, none, some}
 use lib.Dec.{leb}
 use lib.ListN.{length}
 use Rattle.terms.specs.Ladder.{_when_else_}
@@ -35,6 +36,13 @@ standing s store n =
     waits (packetOf s store n) when isWaiting (markOf s n) else
     flies (packetOf s store n) (sentOf s n) when isFlying (markOf s n) else
     gone
+
+-- the packet of a number that waits or flies
+abbrev pub packetIn : Standing → Option (List ℕ)
+packetIn unmade = none
+packetIn (waits packet) = some packet
+packetIn (flies packet sent) = some packet
+packetIn gone = none
 
 -- does it wait, and does it fly
 abbrev pub doesWait : Standing → Bool

@@ -1,23 +1,53 @@
--- What is promised of every run of a sender: its state stays one that the rules allow, and it forgets no number that no acknowledgement named.
-use Prim.Native.Nat.{ℕ, _≤_, _<_}
+-- What is promised of every run of a sender: its state stays one that the rules allow, and of what was submitted nothing is forgotten but what
+-- acks named.
+use Prim.Native.Nat.{ℕ, _+_, _-_, _≤_, _<_}
 use mathlib.Core.Path.{_≡_}
-use mathlib.Core.Bool.{Bool, true, false, _&&_, _||_}
+use mathlib.Core.Bool.{Bool, true, false, _&&_, _||_, not}
 use mathlib.Core.List.{List, [], _∷_}
-use lib.ListN.{length}
+use mathlib.Core.Logic.{_⊎_}
+use mathlib.Core.Option.{Option, none, some, orElse}
+use lib.Dec.{leb, ltb}
+use lib.ListN.{length, getD}
+use Rattle.terms.specs.Ladder.{_when_else_}
 use Rattle.receiver.specs.Answers.{Said, refusal, values}
-use Rattle.sending.specs.Meaning.{gone, standing, Sound}
-use Rattle.sending.specs.Steps.{isFair, isNamed}
-use Rattle.sending.specs.Runs.{Call, send, acks, resend, fetch, Event, Run, historyOf, endOf}
+use Rattle.receiver.specs.Rules.{rulesOf, slotFits}
+use Rattle.places.specs.Table.{_unless_}
+use Rattle.submit.specs.Chunks.{dataPacket}
+use Rattle.sending.specs.Meaning.{Standing, unmade, gone, packetIn, standing, Sound}
+use Rattle.sending.specs.Steps.{isFair, isNamed, chunkAt}
+use Rattle.sending.specs.Runs.{Call, submit, send, acks, resend, fetch, Event, Run, historyOf, endOf}
 
--- no call was refused for the state's rules or the sizes
+-- not refused for the sender's rules or sizes; a submit may be for those of the receiver that it is given
+abbrev pub fairTo : Call → Said → Bool
+fairTo (submit r to from bytes) says = isFair says unless not (rulesOf r && slotFits (r .slot))
+fairTo (send clock output) says = isFair says
+fairTo (acks through nacks clock) says = isFair says
+fairTo (resend clock path) says = isFair says
+fairTo (fetch rank output) says = isFair says
+
 abbrev pub allFair : List Event → Bool
 allFair [] = true
-allFair (e ∷ rest) = isFair (e .answered) && allFair rest
+allFair (e ∷ rest) = fairTo (e .asked) (e .answered) && allFair rest
+
+-- the packet that a submit made under a number: of the chunk in its place of the row
+abbrev pub madeBy : ℕ → ℕ → Call → ℕ → Said → Option (List ℕ)
+madeBy chunk n (submit r to from bytes) next (values given) =
+    some (dataPacket r to from n (chunkAt chunk (n - next) bytes)) when leb next n && ltb n (next + getD given 0 0) else none
+madeBy chunk n (submit r to from bytes) next (refusal why) = none
+madeBy chunk n (send clock output) next says = none
+madeBy chunk n (acks through nacks clock) next says = none
+madeBy chunk n (resend clock path) next says = none
+madeBy chunk n (fetch rank output) next says = none
+
+abbrev pub madeIn : ℕ → ℕ → List Event → Option (List ℕ)
+madeIn chunk n [] = none
+madeIn chunk n (e ∷ rest) = orElse (madeBy chunk n (e .asked) (e .next) (e .answered)) (madeIn chunk n rest)
 
 -- acks that were done named a number
 abbrev pub namedBy : ℕ → Call → Said → Bool
 namedBy n (acks through nacks clock) (values given) = isNamed through nacks n
 namedBy n (acks through nacks clock) (refusal why) = false
+namedBy n (submit r to from bytes) says = false
 namedBy n (send clock output) says = false
 namedBy n (resend clock path) says = false
 namedBy n (fetch rank output) says = false
@@ -26,15 +56,24 @@ abbrev pub namedIn : ℕ → List Event → Bool
 namedIn n [] = false
 namedIn n (e ∷ rest) = namedBy n (e .asked) (e .answered) || namedIn n rest
 
+-- the packet made under a number in a run, and the number's standing at its end
+abbrev pub made : Run → ℕ → Option (List ℕ)
+made run n = madeIn (run .chunk) n (historyOf run)
+
+abbrev pub standingOf : Run → ℕ → Standing
+standingOf run n = standing (endOf run .state) (endOf run .store) n
+
 pub record Remembers (run : Run) : Type 0 where
-  -- the state and the store at the end belong together, and the store is as long as it was
+  -- the state and the store at the end belong together, and the sizes are those of the start
   pub sound : Sound (endOf run .state) (endOf run .store)
   pub store-length : length (endOf run .store) ≡ length (run .store)
-  -- chunk size and slot count are those of the start
   pub chunk-is : endOf run .state .chunk ≡ run .chunk
   pub count-is : endOf run .state .count ≡ run .count
-  -- no call was refused with 11 or with 10
+  -- no call was refused with 11 or with 10 for the sender
   pub never-11-or-10 : allFair (historyOf run) ≡ true
-  -- below the first number every number is gone; from it on one that is gone was named by acks
-  pub below-first : (n : ℕ) → n < run .first .0 → standing (endOf run .state) (endOf run .store) n ≡ gone
-  pub gone-named : (n : ℕ) → run .first .0 ≤ n → standing (endOf run .state) (endOf run .store) n ≡ gone → namedIn n (historyOf run) ≡ true
+  -- the numbers that were made are those from the first one up to next
+  pub made-range : (n : ℕ) (packet : List ℕ) → made run n ≡ some packet → (run .first .0 ≤ n) × (n < endOf run .state .next .0)
+  pub unmade-is : (n : ℕ) → run .first .0 ≤ n → made run n ≡ none → standingOf run n ≡ unmade
+  -- what was made still waits or flies as it was made, or is gone and was named by acks
+  pub kept : (n : ℕ) (packet : List ℕ) → made run n ≡ some packet → (packetIn (standingOf run n) ≡ some packet) ⊎ ((standingOf run n ≡ gone) × (namedIn n (historyOf run) ≡ true))
+  pub below-first : (n : ℕ) → n < run .first .0 → standingOf run n ≡ gone

@@ -7,16 +7,21 @@ use mathlib.Core.List.{List, [], _∷_}
 use lib.Dec.{ltb}
 use lib.ListN.{length}
 use Rattle.terms.specs.declared.SeqNo.{SeqNo}
+use Rattle.terms.specs.declared.StreamId.{StreamId}
 use Rattle.receiver.specs.Answers.{Said, values}
+use Rattle.receiver.specs.declared.Receiver.{Receiver}
 use Rattle.places.specs.Start.{startOf}
 use Rattle.places.specs.declared.Sender.{Sender}
 use Rattle.sender.specs.Send.{sendOf}
 use Rattle.sender.specs.Acks.{acksOf}
 use Rattle.sender.specs.Resend.{resendOf}
 use Rattle.sender.specs.Fetch.{fetchOf}
+use Rattle.submit.specs.Submit.{submitOf}
 
 -- a call, with what it is given beside the state and the store
 pub data Call : Type 0 where
+  -- the receiving half, both stream ids, in wire order, and the bytes
+  submit : Receiver → StreamId → StreamId → List ℕ → Call
   -- a clock and an output
   send : ℕ → List ℕ → Call
   -- an ack-through, NACKs and a clock
@@ -29,8 +34,10 @@ pub data Call : Type 0 where
 -- what was asked and answered
 pub record Event : Type 0 where
   pub asked : Call
+  -- the next number when it was asked: the first that a submit gives
+  pub next : ℕ
   pub answered : Said
-  -- the output as the call left it; acks and resend have none
+  -- the output as the call left it; submit, acks and resend have none
   pub output : List ℕ
 
 -- the state and the store that a call leaves to the next one
@@ -44,28 +51,34 @@ pub record Step : Type 0 where
 
 -- one call
 abbrev pub stepOf : Kept → Call → Step
+stepOf before (submit r to from bytes) =
+    let outcome = submitOf (before .state) r to from bytes (before .store) in
+    record {
+      event = record { asked = submit r to from bytes; next = before .state .next .0; answered = outcome .says; output = [] };
+      kept = record { state = outcome .state; store = outcome .lent };
+    }
 stepOf before (send clock output) =
     let outcome = sendOf (before .state) clock (before .store) output in
     record {
-      event = record { asked = send clock output; answered = outcome .says; output = outcome .lent };
+      event = record { asked = send clock output; next = before .state .next .0; answered = outcome .says; output = outcome .lent };
       kept = record { state = outcome .state; store = before .store };
     }
 stepOf before (acks through nacks clock) =
     let outcome = acksOf (before .state) through nacks clock in
     record {
-      event = record { asked = acks through nacks clock; answered = outcome .says; output = [] };
+      event = record { asked = acks through nacks clock; next = before .state .next .0; answered = outcome .says; output = [] };
       kept = record { state = outcome .state; store = before .store };
     }
 stepOf before (resend clock path) =
     let outcome = resendOf (before .state) clock path in
     record {
-      event = record { asked = resend clock path; answered = outcome .says; output = [] };
+      event = record { asked = resend clock path; next = before .state .next .0; answered = outcome .says; output = [] };
       kept = record { state = outcome .state; store = before .store };
     }
 stepOf before (fetch rank output) =
     let outcome = fetchOf (before .state) rank (before .store) output in
     record {
-      event = record { asked = fetch rank output; answered = outcome .says; output = outcome .output };
+      event = record { asked = fetch rank output; next = before .state .next .0; answered = outcome .says; output = outcome .output };
       kept = before;
     }
 
