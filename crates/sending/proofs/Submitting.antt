@@ -72,7 +72,7 @@ module _ (s : Sender) (r : Receiver) (send recv : StreamId) (bytes store : List 
     unfolding submitOf
     stored-is = (rw (done, count-is), rw (done, count-is))
 
-    -- How many: as many as the bytes make chunks, at least one, and next goes on by so many.
+    -- How many: as many as the bytes make chunks, and at least one.
     pub submit-count : (count ≡ chunksOf (s .chunk) (length bytes)) × (1 ≤ count)
     submit-count =
         let d = asked in
@@ -99,6 +99,7 @@ module _ (s : Sender) (r : Receiver) (send recv : StreamId) (bytes store : List 
       pub submit-keeps : Sound (submitOf s r send recv bytes store .state) (submitOf s r send recv bytes store .lent)
       submit-keeps = submit-stores .sound
 
+      -- Next goes on by so many.
       pub submit-next : submitOf s r send recv bytes store .state .next .0 ≡ s .next .0 + count
       submit-next = submit-stores .next-is
 
