@@ -21,7 +21,7 @@ use Rattle.submit.specs.Chunks.{dataPacket}
 use Rattle.sending.specs.Meaning.{Standing, waits, standing, Sound}
 use Rattle.sending.specs.Steps.{isFair, chunkAt, submittedAs}
 use Rattle.sending.specs.Runs.{submit, Kept, stepOf}
-use Rattle.sending.specs.Remembers.{fairTo}
+use Rattle.sending.specs.Remembers.{isUsable, fairTo}
 use Rattle.sending.proofs.Counts.{by-bool}
 use Rattle.sending.proofs.Submitting.{submit-stores, submit-fair}
 use Rattle.sending.proofs.Lives.{Later, later-same, later-then}
@@ -117,7 +117,7 @@ fair-said (values given) f = refl
 
 pub fair-submit : (s : Sender) (r : Receiver) (to from : StreamId) (bytes store : List ℕ) → Sound s store → fairTo (submit r to from bytes) (submitOf s r to from bytes store .says) ≡ true
 fair-submit s r to from bytes store sound =
-    by-bool (rulesOf r && slotFits (r .slot))
+    by-bool (isUsable r)
     (λ t.
     rw t
     (fair-said (submitOf s r to from bytes store .says)
