@@ -6,20 +6,20 @@ use mathlib.Core.Bool.{Bool, true, _&&_, _||_}
 use mathlib.Core.List.{List, [], _∷_}
 use mathlib.Core.Option.{Option, none, some, orElse}
 use native.Mathlib.Omega.{arith}
-use borrow.Author.Tests.{ne-eqb, leb-true, ltb-true}
+use borrow.Author.Tests.{leb-true, ltb-true}
 use lib.Dec.{leb, ltb}
 use lib.ListN.{length}
 use Rattle.terms.specs.declared.StreamId.{StreamId}
 use Rattle.terms.specs.Ladder.{_when_else_}
 use Rattle.terms.proofs.Laws.{and-left, and-right, and-both}
-use Rattle.receiver.specs.Answers.{Said, refusal, values}
+use Rattle.receiver.specs.Answers.{values}
 use Rattle.receiver.specs.Rules.{rulesOf, slotFits}
 use Rattle.receiver.specs.declared.Receiver.{Receiver}
 use Rattle.places.specs.declared.Sender.{Sender}
 use Rattle.submit.specs.Submit.{submitOf}
 use Rattle.submit.specs.Chunks.{dataPacket}
 use Rattle.sending.specs.Meaning.{Standing, waits, standing, Sound}
-use Rattle.sending.specs.Steps.{isFair, chunkAt, submittedAs}
+use Rattle.sending.specs.Steps.{chunkAt, submittedAs}
 use Rattle.sending.specs.Runs.{submit, Kept, stepOf}
 use Rattle.sending.specs.Remembers.{isUsable, fairTo}
 use Rattle.sending.proofs.Counts.{by-bool}
@@ -111,17 +111,10 @@ module _ (before mid after : Kept) (fair fair' : Bool) (made made' : ℕ → Opt
   }
 
 -- a submit is refused with 11 or 10 for the receiver's state alone
-fair-said : (says : Said) → ((n : ℕ) → says ≡ refusal n → (n ≡ 11 → ⊥) × (n ≡ 10 → ⊥)) → isFair says ≡ true
-fair-said (refusal n) f = let g = f n refl in simp (ne-eqb n 11 (g .0), ne-eqb n 10 (g .1))
-fair-said (values given) f = refl
-
 pub fair-submit : (s : Sender) (r : Receiver) (to from : StreamId) (bytes store : List ℕ) → Sound s store → fairTo (submit r to from bytes) (submitOf s r to from bytes store .says) ≡ true
 fair-submit s r to from bytes store sound =
     by-bool (isUsable r)
-    (λ t.
-    rw t
-    (fair-said (submitOf s r to from bytes store .says)
-    (submit-fair s r to from bytes store sound (and-left (rulesOf r) _ t) (and-right (rulesOf r) (slotFits (r .slot)) t))))
+    (λ t. rw t (submit-fair s r to from bytes store sound (and-left (rulesOf r) _ t) (and-right (rulesOf r) (slotFits (r .slot)) t)))
     (λ f. rw f)
 
 -- a submit that is done makes its packets, and leaves every other number as it stood

@@ -45,10 +45,6 @@ module _ (chunk : ℕ) (some : 1 ≤ chunk) where
   pub chunk-some : (bytes : List ℕ) (k : ℕ) → k < chunksOf chunk (length bytes) → 1 ≤ length (chunkAt chunk k bytes)
   chunk-some bytes k h = simp (length-take, length-drop) (omega (arith, row-begun (length bytes) k h))
 
-  -- there is one where there are bytes
-  pub chunks-some : (size : ℕ) → 1 ≤ size → 1 ≤ chunksOf chunk size
-  chunks-some size h = le-div-iff-mul-le {x = 1} {y = size + (chunk - 1)} some .1 (omega arith)
-
 -- .. and none is longer than the chunk size.
 pub chunk-most : (chunk k : ℕ) (bytes : List ℕ) → length (chunkAt chunk k bytes) ≤ chunk
 chunk-most chunk k bytes = simp length-take (omega arith)

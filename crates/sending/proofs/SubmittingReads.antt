@@ -78,6 +78,6 @@ module _ (s : Sender) (r : Receiver) (send recv : StreamId) (bytes store : List 
   submit-reads a b =
       let d = submit-done s r send recv bytes store (count ∷ []) done in
       let k = submit-count s r send recv bytes store count done in
-      data-packet-reads r send recv (d .receiver-keeps) a b n (chunkAt (s .chunk) (n - s .next .0) bytes)
-      (omega (arith, d .rooms .usable, k .0))
-      (omega (arith, submit-chunk-most s r send recv bytes store count done (n - s .next .0), d .chunk-most))
+      data-packet-reads r send recv (d .keeps) a b n (chunkAt (s .chunk) (n - s .next .0) bytes)
+      (omega (arith, d .roomy .numbered, k .0))
+      (omega (arith, submit-chunk-most s r send recv bytes store count done (n - s .next .0), d .roomy .chunk-most))

@@ -9,12 +9,14 @@ use lib.Seq.{getD-set-same, getD-set-other}
 use Rattle.terms.proofs.Laws.{case}
 use Rattle.places.specs.Table.{_!_}
 use Rattle.places.specs.declared.Sender.{Sender}
-use Rattle.places.proofs.Facts.{Ruled, ruled}
+use Rattle.places.proofs.Facts.{Ruled}
 use Rattle.sender.proofs.Search.{place-is}
 use Rattle.submit.specs.Chunks.{lowestFree, joinedBy, laidAt}
 use Rattle.submit.specs.Submit.{freeOf}
+use Rattle.submit.proofs.Storing.{free-place}
 use Rattle.sending.specs.Meaning.{Sound}
-use Rattle.sending.proofs.SubmittingTables.{count-set, place-among}
+use Rattle.sending.proofs.Stands.{facts}
+use Rattle.sending.proofs.SubmittingTables.{count-kept}
 
 -- what one packet more asks for: a free place below K, a length that a place takes, and a number below the last
 pub record Room (s : Sender) (packet : List ℕ) : Type 0 where
@@ -48,14 +50,14 @@ module _ (s : Sender) (store : List ℕ) (sound : Sound s store) (packet : List 
   pub spot : 1 ≤ freeOf s → Spot s packet
   spot some =
       let p = lowestFree s in
-      let among = place-among 0 (s .count) (s .marks) some in
+      let among = free-place (s .marks) (s .count) some in
       let inside : p < 192 = omega (arith, among .1, sound .marks-long) in
       let free = place-is (s .marks) 0 (among .1) in
       record {
         below = among .0;
         inside = inside;
         free = free;
-        empty = ruled s (sound .keeps) .no-number p (among .1) free;
+        empty = facts s store sound .no-number p (among .1) free;
         numbers-here = λ i e. rw e (getD-set-same (s .numbers) p (s .next .0) 0 (omega (arith, sound .numbers-long)));
         lengths-here = λ i e. rw e (getD-set-same (s .lengths) p (length packet) 0 (omega (arith, sound .lengths-long)));
         marks-here = λ i e. rw e (getD-set-same (s .marks) p 1 0 (omega (arith, sound .marks-long)));
@@ -81,7 +83,7 @@ module _ (s : Sender) (store : List ℕ) (sound : Sound s store) (packet : List 
 
   pub joined-ruled : Ruled (grown s packet)
   joined-ruled =
-      let r = ruled s (sound .keeps) in
+      let r = facts s store sound in
       let next-most = room .usable in
       record {
         distinct = λ i j h k o a b e.
@@ -127,7 +129,7 @@ module _ (s : Sender) (store : List ℕ) (sound : Sound s store) (packet : List 
             at-or-off i
             (λ p. r .no-time i (before i h) (ap (λ (k : ℕ). s .marks ! k) p ∙ at .free))
             (λ p. r .not-sent i (before i h) (sym (at .marks-there i p) ∙ e));
-        few = omega (arith, r .few, rw (at .free) at (count-set 2 (s .marks) (lowestFree s) 1 (omega (arith, at .inside, sound .marks-long))));
+        few = rw (count-kept 2 (s .marks) (lowestFree s) 1 (λ e. omega (arith, at .free)) (λ e. omega arith)) (r .few);
         past = λ i h. r .past i (before i h);
         due = r .due;
         window-some = r .window-some;

@@ -7,37 +7,27 @@ use native.Mathlib.Nat.{mul-le-mul-right}
 use native.Mathlib.Decide.{ℕ-discrete, decLt}
 use native.Mathlib.Omega.{arith}
 use borrow.Author.Tests.{le-leb, lt-leb}
-use lib.ListN.{length, getD, take, length-set, length-take}
-use lib.Seq.{getD-take, take-set-lt}
+use lib.ListN.{length, getD, length-set}
 use Rattle.terms.proofs.Laws.{case}
 use Rattle.receiver.proofs.Standings.{part-same, laid-length, laid-here, laid-before, laid-after}
 use Rattle.places.specs.Table.{_!_, placeOf}
 use Rattle.places.specs.declared.Sender.{Sender}
-use Rattle.places.proofs.Facts.{ruled, rules-of, sized}
+use Rattle.places.proofs.Facts.{rules-of, sized}
 use Rattle.sender.specs.Numbers.{sizeOf, offsetOf, packetOf}
 use Rattle.sender.proofs.Search.{beyond, place-is}
 use Rattle.submit.specs.Chunks.{lowestFree}
 use Rattle.submit.specs.Submit.{freeOf}
+use Rattle.submit.proofs.Storing.{free-fewer}
 use Rattle.sending.specs.Meaning.{waits, gone, markOf, sentOf, standing, Sound}
-use Rattle.sending.proofs.SubmittingTables.{place-other, place-new, count-set}
+use Rattle.sending.proofs.Stands.{facts, nowhere-gone}
+use Rattle.sending.proofs.SubmittingTables.{place-other, place-new}
 use Rattle.sending.proofs.SubmittingRules.{Room, grown, laid, Spot, spot, joined-ruled}
 
 -- no packet has the number 0
 pub zero-gone : (s : Sender) (store : List ℕ) → Sound s store → standing s store 0 ≡ gone
-unfolding standing
 zero-gone s store sound =
-    let r = ruled s (sound .keeps) in
-    let p = placeOf (s .numbers) 0 in
-    let free : s .marks ! p ≡ 0 =
-    case
-    (λ (h : p < 192).
-    case
-    (λ (z : s .marks ! p ≡ 0). z)
-    (λ (n : s .marks ! p ≡ 0 → ⊥). absurd (omega (arith, r .some p (omega (arith, sound .marks-long)) n, place-is (s .numbers) 0 (omega (arith, sound .numbers-long)))))
-    (ℕ-discrete (s .marks ! p) 0))
-    (λ (h : p < 192 → ⊥). beyond (s .marks) p 0 (omega (arith, sound .marks-long)))
-    (decLt p 192) in
-    rw (lt-leb (s .next .0) 0 (omega (arith, r .next-some)), free)
+    let r = facts s store sound in
+    nowhere-gone s store sound 0 (r .next-some) (λ i h o e. omega (arith, r .some i (omega (arith, sound .marks-long)) o))
 
 -- two bounds of places make two bounds of bytes
 places-apart : (chunk p q : ℕ) → p < q → offsetOf chunk p + (chunk + 1044) ≤ offsetOf chunk q
@@ -70,18 +60,12 @@ module _ (s : Sender) (store : List ℕ) (sound : Sound s store) (packet : List 
 
   -- one free place less
   pub free-less : freeOf s ≡ freeOf (grown s packet) + 1
-  free-less =
-      let p = lowestFree s in
-      let below = here .below in
-      let front = take (s .count) (s .marks) in
-      let inside : p < length front = simp length-take (omega (arith, here .inside, sound .marks-long)) in
-      let bare : front ! p ≡ 0 = getD-take (s .count) (s .marks) p 0 below ∙ here .free in
-      rw (take-set-lt (s .count) (s .marks) p 1 below) (omega (arith, rw bare at (count-set 0 front p 1 inside)))
+  free-less = sym (free-fewer (s .marks) (s .count) (room .free))
 
   -- the next number stood nowhere, and stands at the place that was filled
   pub place-next : placeOf (grown s packet .numbers) (s .next .0) ≡ lowestFree s
   place-next =
-      let r = ruled s (sound .keeps) in
+      let r = facts s store sound in
       place-new (s .numbers) (lowestFree s) (s .next .0) (omega (arith, here .inside, sound .numbers-long))
       (λ i h e.
       let h' : i < length (s .marks) = omega (arith, sound .numbers-long, sound .marks-long) in
@@ -109,7 +93,7 @@ module _ (s : Sender) (store : List ℕ) (sound : Sound s store) (packet : List 
     -- no length is above what a place takes
     size-most : sizeOf s n ≤ s .chunk + 1044
     size-most =
-        let r = ruled s (sound .keeps) in
+        let r = facts s store sound in
         let p = placeOf (s .numbers) n in
         case
         (λ (h : p < 192).

@@ -13,12 +13,12 @@ use lib.ListN.{length, getD, take, drop, length-take}
 use Rattle.terms.proofs.Laws.{case}
 use Rattle.places.specs.Table.{placeOf}
 use Rattle.places.specs.declared.Sender.{Sender}
-use Rattle.places.proofs.Facts.{ruled}
 use Rattle.sender.specs.Numbers.{sizeOf, offsetOf}
 use Rattle.submit.specs.Chunks.{lowestFree, Stored, storedBy}
-use Rattle.submit.specs.Submit.{freeOf}
+use Rattle.submit.specs.Steps.{Roomy}
 use Rattle.sending.specs.Meaning.{Standing, waits, standing, Sound}
 use Rattle.sending.specs.Steps.{submittedAs, isOutside}
+use Rattle.sending.proofs.Stands.{facts}
 use Rattle.sending.proofs.SubmittingRules.{Room, grown, laid}
 use Rattle.sending.proofs.SubmittingStep.{laid-long, joined-sound, free-less, place-next, size-next, place-stays, size-stays, next-waits, others-stand, byte-stays}
 use Rattle.sending.proofs.SubmittingChunks.{chunk-later}
@@ -28,12 +28,7 @@ pub record FitsPlaces (packet : ℕ → List ℕ → List ℕ) (chunk : ℕ) : T
   pub long : (n : ℕ) (payload : List ℕ) → 22 ≤ length (packet n payload)
   pub short : (n : ℕ) (payload : List ℕ) → length payload ≤ chunk → length (packet n payload) ≤ chunk + 1044
 
--- what so many packets more ask for
-pub record Rooms (s : Sender) (count : ℕ) : Type 0 where
-  pub free : count ≤ freeOf s
-  pub usable : s .next .0 + count ≤ 4294967295
-
--- what they leave: a state and a store that belong together, every number's standing, and every byte that is none of theirs
+-- what so many packets more leave: a state and a store that belong together, every number's standing, and every byte that is none of theirs
 pub record Stores (packet : ℕ → List ℕ → List ℕ) (count : ℕ) (bytes : List ℕ) (s : Sender) (store : List ℕ) (after : Stored) : Type 0 where
   pub sound : Sound (after .state) (after .store)
   pub next-is : after .state .next .0 ≡ s .next .0 + count
@@ -106,7 +101,7 @@ module _ (packet : ℕ → List ℕ → List ℕ) where
       (after : Stored) (rest : Stores packet left (drop (s .chunk) bytes) (grown s made) (laid s made store) after) where
     stores-more : Stores packet (suc left) bytes s store after
     stores-more =
-        let some = ruled s (sound .keeps) .next-some in
+        let some = facts s store sound .next-some in
         record {
           sound = rest .sound;
           next-is = omega (arith, rest .next-is);
@@ -135,7 +130,7 @@ module _ (packet : ℕ → List ℕ → List ℕ) where
         }
 
   -- So many packets, each in the lowest place that is free then.
-  pub stores : (count : ℕ) (bytes : List ℕ) (s : Sender) (store : List ℕ) → Sound s store → Rooms s count → FitsPlaces packet (s .chunk)
+  pub stores : (count : ℕ) (bytes : List ℕ) (s : Sender) (store : List ℕ) → Sound s store → Roomy s count (length store) → FitsPlaces packet (s .chunk)
       → Stores packet count bytes s store (storedBy packet count bytes s store)
   unfolding storedBy
   stores zero bytes s store sound rooms fit = stores-none bytes s store sound
@@ -145,10 +140,13 @@ module _ (packet : ℕ → List ℕ → List ℕ) where
         free = omega (arith, rooms .free);
         long = fit .long (s .next .0) (take (s .chunk) bytes);
         short = fit .short (s .next .0) (take (s .chunk) bytes) (simp length-take (omega arith));
-        usable = omega (arith, rooms .usable);
+        usable = omega (arith, rooms .numbered);
       } in
-      let rooms' : Rooms (grown s made) left = record {
+      let rooms' : Roomy (grown s made) left (length (laid s made store)) = record {
+        chunk-most = rooms .chunk-most;
+        count-most = rooms .count-most;
+        store = laid-long s store sound made room ∙ rooms .store;
         free = omega (arith, rooms .free, free-less s store sound made room);
-        usable = omega (arith, rooms .usable);
+        numbered = omega (arith, rooms .numbered);
       } in
       stores-more left bytes s store sound made room refl _ (stores left (drop (s .chunk) bytes) (grown s made) (laid s made store) (joined-sound s store sound made room) rooms' fit)

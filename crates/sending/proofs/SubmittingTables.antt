@@ -1,16 +1,14 @@
 -- A table with one free place filled: where each number stands after it, and how many places bear a mark. Assumes nothing.
-use Prim.Native.Nat.{ℕ, zero, suc, _+_, _≤_, _<_}
+use Prim.Native.Nat.{ℕ, zero, suc, _≤_, _<_}
 use mathlib.Core.Path.{_≡_, refl, sym, _∙_}
 use mathlib.Core.List.{List, [], _∷_}
-use native.Mathlib.Nat.{not-suc-le-zero, le-of-suc-le-suc}
 use native.Mathlib.Decide.{ℕ-discrete}
 use native.Mathlib.Omega.{arith}
-use borrow.Author.Tests.{eq-eqb, ne-eqb}
-use lib.Dec.{eqb}
-use lib.ListN.{length, set, take, length-set}
+use borrow.Author.Tests.{ne-eqb}
+use lib.ListN.{length, set, length-set}
 use lib.Seq.{getD-set-same, getD-set-other}
 use Rattle.terms.proofs.Laws.{case}
-use Rattle.places.specs.Table.{_!_, oneIf, countOf, placeOf}
+use Rattle.places.specs.Table.{_!_, countOf, placeOf}
 use Rattle.sender.proofs.Search.{place-is, place-first}
 
 -- a number that stood elsewhere, or nowhere, has the place that it had
@@ -31,22 +29,8 @@ place-new l p v h none =
     (λ (o : q ≡ p → ⊥). absurd (none q (omega arith) (sym (getD-set-other l p q v 0 o) ∙ is)))
     (ℕ-discrete q p)
 
--- how many bear a mark: one less if the place bore it, one more if it does now
-pub count-set : (x : ℕ) (l : List ℕ) (p v : ℕ) → p < length l → countOf x (set l p v) + oneIf (eqb (l ! p) x) ≡ countOf x l + oneIf (eqb v x)
-count-set x [] p v h = absurd (not-suc-le-zero h)
-count-set x (y ∷ l) zero v h = omega arith
-count-set x (y ∷ l) (suc p) v h = omega (arith, count-set x l p v (le-of-suc-le-suc h))
-
--- where some of the first k bear it, the first that does is one of them
-pub place-among : (x k : ℕ) (l : List ℕ) → 1 ≤ countOf x (take k l) → (placeOf l x < k) × (placeOf l x < length l)
-place-among x zero l h = absurd (omega arith)
-place-among x (suc k) [] h = absurd (omega arith)
-place-among x (suc k) (y ∷ l) h =
-    case
-    (λ (e : y ≡ x). rw (eq-eqb y x e) (omega arith, omega arith))
-    (λ (o : y ≡ x → ⊥).
-    let f = ne-eqb y x o in
-    let m : 1 ≤ 0 + countOf x (take k l) = rw f at h in
-    let r = place-among x k l (omega arith) in
-    rw f (omega (arith, r .0), omega (arith, r .1)))
-    (ℕ-discrete y x)
+-- a place that bears another mark before and after it does not count
+pub count-kept : (x : ℕ) (l : List ℕ) (p v : ℕ) → (l ! p ≡ x → ⊥) → (v ≡ x → ⊥) → countOf x (set l p v) ≡ countOf x l
+count-kept x [] p v a b = refl
+count-kept x (y ∷ l) zero v a b = rw (ne-eqb y x a, ne-eqb v x b)
+count-kept x (y ∷ l) (suc p) v a b = rw (count-kept x l p v a b)

@@ -115,8 +115,10 @@ length-fair size e =
 -- what holds where packets are made
 pub record Made (s : Sender) (r : Receiver) (size storeLength : ℕ) (given : List ℕ) : Type 0 where
   pub keeps : rulesOf r ≡ true
+  pub size-some : 1 ≤ size
+  pub chunk-some : 1 ≤ s .chunk
   pub roomy : Roomy s (chunksOf (s .chunk) size) storeLength
-  pub is : values (chunksOf (s .chunk) size ∷ []) ≡ values given
+  pub gives : given ≡ chunksOf (s .chunk) size ∷ []
 
 pub made : (s : Sender) (r : Receiver) (size storeLength : ℕ) (given : List ℕ) → submitSaid s r size storeLength ≡ values given → Made s r size storeLength given
 unfolding submitSaid
@@ -132,6 +134,8 @@ made s r size storeLength given h =
     let last = leb-false 4294967295 (s .next .0 + (n - 1)) (p20 .0) in
     record {
       keeps = and-right (rules s) (rulesOf r) (not-false _ (p11 .0));
+      size-some = length-fair size (p19 .0) .0;
+      chunk-some = z .counts .chunk-some;
       roomy = record {
         chunk-most = z .counts .chunk-most;
         count-most = z .counts .count-most;
@@ -139,7 +143,7 @@ made s r size storeLength given h =
         free = ltb-false (freeOf s) n (p18 .0);
         numbered = omega arith;
       };
-      is = p18 .1;
+      gives = let e = p18 .1 in cc;
     }
 
 -- THE OUTCOME
@@ -157,7 +161,7 @@ module _ (s : Sender) (r : Receiver) (send recv : StreamId) (bytes store : List 
     told = sym judged ∙ ap saidTally is
 
     counted : chunksOf (s .chunk) (length bytes) ≡ packets
-    counted = let e = made s r (length bytes) (length store) (packets ∷ []) told .is in cc
+    counted = let e = made s r (length bytes) (length store) (packets ∷ []) told .gives in cc
 
     pub submit-asks : (rulesOf r ≡ true) × Roomy s packets (length store)
     submit-asks = let m = made s r (length bytes) (length store) (packets ∷ []) told in (m .keeps, rw counted at (m .roomy))

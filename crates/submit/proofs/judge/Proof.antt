@@ -1,5 +1,5 @@
 -- `submit::judge` meets its contract: at each return the tests that led there decide the ladder. Assumes nothing.
-use Prim.Native.Nat.{_≤_}
+use Prim.Native.Nat.{_+_, _-_, _≤_}
 use mathlib.Core.Path.{_≡_, sym, _∙_}
 use mathlib.Core.Bool.{true, false, _&&_, _||_}
 use mathlib.Core.List.{[], _∷_}
@@ -115,7 +115,8 @@ unfolding submitSaid
 returns-5 c =
     let j = judged (c .before .before .before .before .before .before .before) in
     let f = fair (c .before .before) in
-    simp (j .0, j .1, f .0, f .1, le-leb _ _ (rw (c .before .chunk-count .ensures) at (c .if5 .taken)))
+    let a = c .before .before .before .before .before .before .before .before .before .before .before .before .args in
+    simp (j .0, j .1, f .0, f .1, le-leb 4294967295 (a .s .next .0 + (chunksOf (a .s .chunk) (a .size) - 1)) (omega (arith, c .before .chunk-count .ensures, c .if5 .taken)))
 
 cast-end : tie.Need-cast-end
 cast-end c = search needs
@@ -139,18 +140,24 @@ unfolding submitSaid
 numbered c =
     let j = judged (c .before .before .before .before .before .before .before) in
     let f = fair (c .before .before) in
-    simp (j .0, j .1, f .0, f .1, lt-leb _ _ (rw (c .before .chunk-count .ensures) at (c .if5 .left)))
+    let a = c .before .before .before .before .before .before .before .before .before .before .before .before .args in
+    simp (j .0, j .1, f .0, f .1, lt-leb 4294967295 (a .s .next .0 + (chunksOf (a .s .chunk) (a .size) - 1)) (omega (arith, c .before .chunk-count .ensures, c .if5 .left)))
 
 returns-6 : tie.Need-returns-6
-returns-6 c = sym (numbered (c .before .before .before) ∙ simp (lt-ltb _ _ (rw (c .before .count-of2 .ensures, c .before .before .before .before .chunk-count .ensures) at (c .if6 .taken))))
+returns-6 c =
+    let e = c .before .before .before in
+    let a = e .before .before .before .before .before .before .before .before .before .before .before .before .args in
+    sym (numbered e ∙ simp (lt-ltb (freeOf (a .s)) (chunksOf (a .s .chunk) (a .size)) (omega (arith, c .before .count-of2 .ensures, e .before .chunk-count .ensures, c .if6 .taken))))
 
 cast-t27 : tie.Need-cast-t27
 cast-t27 c = search needs
 
 returns-7 : tie.Need-returns-7
 returns-7 c =
-    rw (c .before .before .before .before .chunk-count .ensures)
-    (sym (numbered (c .before .before .before) ∙ simp (le-ltb _ _ (rw (c .before .count-of2 .ensures, c .before .before .before .before .chunk-count .ensures) at (c .if6 .left)))))
+    let e = c .before .before .before in
+    let a = e .before .before .before .before .before .before .before .before .before .before .before .before .args in
+    rw (e .before .chunk-count .ensures)
+    (sym (numbered e ∙ simp (le-ltb (freeOf (a .s)) (chunksOf (a .s .chunk) (a .size)) (omega (arith, c .before .count-of2 .ensures, e .before .chunk-count .ensures, c .if6 .left)))))
 
 pub judge-spec : {M : Type 1} → statement M
 judge-spec =
