@@ -6,7 +6,7 @@ use mathlib.Core.List.{List, [], _∷_}
 use native.Mathlib.Nat.{not-suc-le-zero}
 use native.Mathlib.Decide.{ℕ-discrete, decLe}
 use native.Mathlib.Omega.{arith}
-use borrow.Author.Tests.{leb-true, le-leb, lt-leb, ne-eqb, eqb-true}
+use borrow.Author.Tests.{ltb-true, leb-true, le-leb, lt-leb, ne-eqb, eqb-true}
 use lib.Dec.{ltb}
 use lib.ListN.{length, take}
 use Rattle.terms.specs.Lists.{all}
@@ -21,7 +21,7 @@ use Rattle.places.proofs.Facts.{Ruled, rules-of}
 use Rattle.sender.specs.Numbers.{inFlight, replaced}
 use Rattle.sender.specs.Resend.{runWhile, aged, expiredOf, isEmpty, isIn}
 use Rattle.sender.proofs.Tables.{replaced-at}
-use Rattle.sending.specs.Meaning.{Standing, unmade, waits, flies, gone, markOf, standing, doesFly, Sound}
+use Rattle.sending.specs.Meaning.{Standing, unmade, waits, flies, gone, markOf, sentOf, standing, doesFly, Sound}
 use Rattle.sending.specs.Steps.{goesAgain, resentAs}
 use Rattle.sending.proofs.Counts.{by-bool}
 use Rattle.sending.proofs.Stands.{in-flight-is, facts, own-place, marked-in, marked-is, flies-told}
@@ -61,6 +61,20 @@ none-in (x ∷ l) t n = absurd (not-suc-le-zero (leb-true (length (x ∷ l)) 0 t
 pub expired-flies : (s : Sender) (store : List ℕ) (clock n : ℕ) → isIn (expiredOf s clock) n ≡ true → doesFly (standing s store n) ≡ true
 expired-flies s store clock n t =
     sym (in-flight-is s store n) ∙ in-front (aged (s .numbers) (s .sent) clock (rtoOf (s .timing))) (s .window) n (inFlight s) t
+
+-- the age of each is above RTO
+passing : (p q : ℕ → Bool) → ((x : ℕ) → p x ≡ true → q x ≡ true) → (l : List ℕ) → all q (runWhile p l) ≡ true
+passing p q f [] = refl
+passing p q f (x ∷ l) = by-bool (p x) (λ t. rw t (and-both (q x) (all q (runWhile p l)) (f x t) (passing p q f l))) (λ e. rw e)
+
+pub expired-old : (s : Sender) (clock n : ℕ) → isIn (expiredOf s clock) n ≡ true → rtoOf (s .timing) < clock - sentOf s n
+expired-old s clock n t =
+    let old = aged (s .numbers) (s .sent) clock (rtoOf (s .timing)) in
+    ltb-true _ _
+    (by-bool (old n) (λ e. e)
+    (λ f.
+    absurd (true≢false (sym t ∙ rw (all-take (differs n) (s .window) (runWhile old (inFlight s))
+    (passing old (differs n) (λ x e. rw (ne-eqb x n (λ q. true≢false (sym e ∙ ap old q ∙ f)))) (inFlight s)))))))
 
 -- and where nothing flies, none goes again
 pub idle-none : (s : Sender) (clock : ℕ) (path : Bool) → isEmpty (inFlight s) ≡ true → (n : ℕ) → goesAgain s clock path n ≡ false

@@ -21,7 +21,7 @@ use Rattle.submit.specs.Chunks.{dataPacket}
 use Rattle.sending.specs.Meaning.{Standing, waits, standing, Sound}
 use Rattle.sending.specs.Steps.{chunkAt, submittedAs}
 use Rattle.sending.specs.Runs.{submit, Kept, stepOf}
-use Rattle.sending.specs.Remembers.{fairTo}
+use Rattle.sending.specs.Remembers.{isUsable, fairTo}
 use Rattle.sending.proofs.Counts.{by-bool}
 use Rattle.sending.proofs.Submitting.{submit-stores, submit-fair}
 use Rattle.sending.proofs.Lives.{Later, later-same, later-then}
@@ -113,7 +113,7 @@ module _ (before mid after : Kept) (fair fair' : Bool) (made made' : ℕ → Opt
 -- a submit is refused with 11 or 10 for the receiver's state alone
 pub fair-submit : (s : Sender) (r : Receiver) (to from : StreamId) (bytes store : List ℕ) → Sound s store → fairTo (submit r to from bytes) (submitOf s r to from bytes store .says) ≡ true
 fair-submit s r to from bytes store sound =
-    by-bool (rulesOf r && slotFits (r .slot))
+    by-bool (isUsable r)
     (λ t. rw t (submit-fair s r to from bytes store sound (and-left (rulesOf r) _ t) (and-right (rulesOf r) (slotFits (r .slot)) t)))
     (λ f. rw f)
 

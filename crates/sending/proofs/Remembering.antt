@@ -1,12 +1,15 @@
 -- Every run of a sender remembers what was submitted until acks name it: each call keeps a sound state sound, blames neither the rules nor the sizes,
 -- and lets each number's standing become no more than it may. Told by the calls' laws alone. Assumes nothing.
-use Prim.Native.Nat.{ℕ, _-_, _<_, _^_}
-use mathlib.Core.Path.{_≡_, refl, _∙_, ap}
+use Prim.Native.Nat.{ℕ, _≤_, _-_, _<_, _^_}
+use mathlib.Core.Path.{_≡_, refl, sym, _∙_, ap}
 use mathlib.Core.Bool.{true, false}
 use mathlib.Core.List.{List, [], _∷_}
+use mathlib.Core.Logic.{⊎-elim}
+use native.Mathlib.Decide.{decLe}
 use native.Mathlib.Omega.{arith}
 use borrow.Author.Tests.{le-leb, lt-leb, ltb-true}
 use lib.ListN.{length}
+use Rattle.terms.proofs.Laws.{case}
 use Rattle.receiver.specs.Answers.{values}
 use Rattle.receiver.proofs.Laws.{by-said}
 use Rattle.sender.specs.Send.{sendOf}
@@ -25,7 +28,7 @@ use Rattle.sending.proofs.Acks.{acks-nothing, acks-changes, acks-sound,
 use Rattle.sending.proofs.Resends.{resend-nothing, resend-changes, resend-sound, resend-fair}
 use Rattle.sending.proofs.Fetches.{fetch-fair}
 use Rattle.sending.proofs.Lives.{sent-later, resent-later, acked-later}
-use Rattle.sending.proofs.Goes.{Goes, made-or-not, stayed, changed, goes-then, fair-submit, submitted}
+use Rattle.sending.proofs.Goes.{not-made, Goes, made-or-not, stayed, changed, goes-then, fair-submit, submitted}
 
 -- every call goes on
 step : (chunk : ℕ) (kept : Kept) (call : Call) → kept .state .chunk ≡ chunk → Sound (kept .state) (kept .store)
@@ -106,6 +109,18 @@ remembers run =
       made-range = λ n packet e. let w = g .range n packet e in (omega (arith, next), w .1);
       unmade-is = λ n h e. g .still n e .unmade-stays (stands n ∙ rw (le-leb (first .0) n h));
       kept = λ n packet e. g .fresh n packet e .packet-stays packet refl;
+      as-made = λ n packet e.
+          made-or-not (madeIn (run .chunk) n (historyOf run))
+          (λ z.
+          case
+          (λ (a : first .0 ≤ n). let u = g .still n z .unmade-stays (stands n ∙ rw (le-leb (first .0) n a)) in let f = rw u at e in not-made f refl)
+          (λ (a : first .0 ≤ n → ⊥). let u = g .still n z .gone-stays (stands n ∙ rw (lt-leb (first .0) n (omega arith))) in let f = rw u at e in not-made f refl)
+          (decLe (first .0) n))
+          (λ p z.
+          ⊎-elim
+          (λ f. z ∙ sym f ∙ e)
+          (λ f. let k = rw (f .0) at e in not-made k refl)
+          (g .fresh n p z .packet-stays p refl));
       below-first = λ n h.
           made-or-not (madeIn (run .chunk) n (historyOf run))
           (λ z. g .still n z .gone-stays (stands n ∙ rw (lt-leb (first .0) n h)))

@@ -11,15 +11,20 @@ use lib.ListN.{length, getD}
 use Rattle.terms.specs.Ladder.{_when_else_}
 use Rattle.receiver.specs.Answers.{Said, refusal, values}
 use Rattle.receiver.specs.Rules.{rulesOf, slotFits}
+use Rattle.receiver.specs.declared.Receiver.{Receiver}
 use Rattle.places.specs.Table.{_unless_}
 use Rattle.submit.specs.Chunks.{dataPacket}
 use Rattle.sending.specs.Meaning.{Standing, unmade, gone, packetIn, standing, Sound}
 use Rattle.sending.specs.Steps.{isFair, isNamed, chunkAt}
 use Rattle.sending.specs.Runs.{Call, submit, send, acks, resend, fetch, Event, Run, historyOf, endOf}
 
+-- a receiver that keeps its rules, with a slot size in range
+abbrev pub isUsable : Receiver → Bool
+isUsable r = rulesOf r && slotFits (r .slot)
+
 -- not refused for the sender's rules or sizes; a submit may be for those of the receiver that it is given
 abbrev pub fairTo : Call → Said → Bool
-fairTo (submit r to from bytes) says = isFair says unless not (rulesOf r && slotFits (r .slot))
+fairTo (submit r to from bytes) says = isFair says unless not (isUsable r)
 fairTo (send clock output) says = isFair says
 fairTo (acks through nacks clock) says = isFair says
 fairTo (resend clock path) says = isFair says
@@ -76,4 +81,6 @@ pub record Remembers (run : Run) : Type 0 where
   pub unmade-is : (n : ℕ) → run .first .0 ≤ n → made run n ≡ none → standingOf run n ≡ unmade
   -- what was made still waits or flies as it was made, or is gone and was named by acks
   pub kept : (n : ℕ) (packet : List ℕ) → made run n ≡ some packet → (packetIn (standingOf run n) ≡ some packet) ⊎ ((standingOf run n ≡ gone) × (namedIn n (historyOf run) ≡ true))
+  -- and what waits or flies was made so
+  pub as-made : (n : ℕ) (packet : List ℕ) → packetIn (standingOf run n) ≡ some packet → made run n ≡ some packet
   pub below-first : (n : ℕ) → n < run .first .0 → standingOf run n ≡ gone
