@@ -15,9 +15,9 @@ use terms::SeqNo;
 pub fn accept(r: &mut Receiver, number: SeqNo, payload: &[u8], store: &mut [u8]) -> Answer
     ensures { λ a. ⌜ acceptedBehind a (now (r .exit)) (now (store .exit)) ≡ acceptOf (now (r .entry)) number (now (payload .entry)) (now (store .entry)) ⌝ }
 {
-    let done = receiver::accept(*r, number, payload, store);
-    *r = done.state;
-    done.answer
+    let accepted = receiver::accept(*r, number, payload, store);
+    *r = accepted.state;
+    accepted.answer
 }
 
 // The same, over `receiver::accept_in`, which is lent the table where it lies.
@@ -36,9 +36,9 @@ pub fn accept_lent(r: &mut Receiver, number: SeqNo, payload: &[u8], store: &mut 
 pub fn take(r: &mut Receiver, store: &[u8], output: &mut [u8]) -> Given
     ensures { λ g. ⌜ tookBehind g (now (r .exit)) (now (output .exit)) ≡ takeOf (now (r .entry)) (now (store .entry)) (now (output .entry)) ⌝ }
 {
-    let done = receiver::take(*r, store, output);
-    *r = done.state;
-    done.answer
+    let taken = receiver::take(*r, store, output);
+    *r = taken.state;
+    taken.answer
 }
 
 // The same, over `receiver::take_in`, which is lent the table where it lies.
