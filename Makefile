@@ -1,7 +1,7 @@
 # Two commands for a newcomer: `make demo` and `make test`. Both need the Rattle toolchain (`rt`), `rustc` and `make`, and nothing else.
 SEED ?= 1
 
-.PHONY: demo test links compare
+.PHONY: demo test links compare host
 
 # The story of the lamps: the same packets, given to our receiver and to the Rust's.
 demo:
@@ -13,7 +13,7 @@ demo:
 	@target/oracle/oracle lamps
 
 # The tests, then the verdict. `rt ci` starts from nothing: its last line is 'N passed, 0 failed'.
-test: links compare
+test: links compare host
 	@rt ci
 
 # The index of promises leads to what it names.
@@ -30,3 +30,10 @@ compare:
 	@oracle/compare.sh 'receive slips'
 	@oracle/compare.sh ack $(SEED) 20000
 	@oracle/compare.sh timer $(SEED) 1000260
+
+# A host in C over the static library: it tells the story of the lamps in the words of our own program.
+host:
+	@mkdir -p target
+	@tools/host lamps >target/host-lamps.out
+	@diff crates/lamps/stdout target/host-lamps.out
+	@echo 'host/lamps.c: the same lines as crates/lamps'
