@@ -31,9 +31,10 @@ compare:
 	@oracle/compare.sh ack $(SEED) 20000
 	@oracle/compare.sh timer $(SEED) 1000260
 
-# A host in C over the static library: it tells the story of the lamps in the words of our own program.
+# Hosts in C over the static library: each prints the lines that our own program of its name prints, but for the last of `thousand`,
+# which tells of the calls by value.
 host:
-	@mkdir -p target
-	@tools/host lamps >target/host-lamps.out
-	@diff crates/lamps/stdout target/host-lamps.out
-	@echo 'host/lamps.c: the same lines as crates/lamps'
+	@tools/host lamps thousand
+	@diff crates/lamps/stdout target/host/lamps.out
+	@head -n 3 crates/thousand/stdout | diff - target/host/thousand.out
+	@echo 'host/lamps.c, host/thousand.c: the lines of crates/lamps and crates/thousand'
