@@ -1,7 +1,7 @@
 # Two commands for a newcomer: `make demo` and `make test`. Both need the Rattle toolchain (`rt`), `rustc` and `make`, and nothing else.
 SEED ?= 1
 
-.PHONY: demo test links compare
+.PHONY: demo test links compare host
 
 # The story of the lamps: the same packets, given to our receiver and to the Rust's.
 demo:
@@ -13,7 +13,7 @@ demo:
 	@target/oracle/oracle lamps
 
 # The tests, then the verdict. `rt ci` starts from nothing: its last line is 'N passed, 0 failed'.
-test: links compare
+test: links compare host
 	@rt ci
 
 # The index of promises leads to what it names.
@@ -30,3 +30,11 @@ compare:
 	@oracle/compare.sh 'receive slips'
 	@oracle/compare.sh ack $(SEED) 20000
 	@oracle/compare.sh timer $(SEED) 1000260
+
+# Hosts in C over the static library: each prints the lines that our own program of its name prints, but for the last of `thousand`,
+# which tells of the calls by value.
+host:
+	@tools/host lamps thousand
+	@diff crates/lamps/stdout target/host/lamps.out
+	@head -n 3 crates/thousand/stdout | diff - target/host/thousand.out
+	@echo 'host/lamps.c, host/thousand.c: the lines of crates/lamps and crates/thousand'

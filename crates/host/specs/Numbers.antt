@@ -1,0 +1,47 @@
+-- What the exported calls give a host, which knows numbers and no enum: the refusal's number, or 0 and how many bytes.
+use Prim.Native.Nat.{ℕ}
+use mathlib.Core.List.{List, [], _∷_}
+use Rattle.receiver.specs.Answers.{Said, refusal, values, Outcome}
+use Rattle.receiver.specs.declared.Receiver.{Receiver}
+use Rattle.ack.specs.Acknowledge.{Acknowledges}
+use Rattle.host.specs.declared.Counted.{Counted}
+
+abbrev pub firstOr0 : List ℕ → ℕ
+firstOr0 [] = 0
+firstOr0 (n ∷ ns) = n
+
+-- no refusal's number is 0
+abbrev pub inNumbers : Said → Counted
+inNumbers (refusal number) = record { refusal = number; count = 0 }
+inNumbers (values given) = record { refusal = 0; count = firstOr0 given }
+
+-- the outcome of a call on a receiver, in numbers
+pub record Hosted : Type 0 where
+  pub answer : Counted
+  pub state : Receiver
+  pub lent : List ℕ
+
+abbrev pub hosted : Outcome → Hosted
+hosted o = record { answer = inNumbers (o .says); state = o .state; lent = o .lent }
+
+-- a call that gives nothing but a refusal's number, or 0
+abbrev pub answered : ℕ → Receiver → List ℕ → Hosted
+answered number state lent = record { answer = record { refusal = number; count = 0 }; state = state; lent = lent }
+
+-- a start is lent nothing to change
+abbrev pub begun : ℕ → Receiver → Hosted
+begun number state = answered number state []
+
+abbrev pub counted : Counted → Receiver → List ℕ → Hosted
+counted answer state lent = record { answer = answer; state = state; lent = lent }
+
+-- the outcome of an acknowledgement, in numbers
+pub record HostedAck : Type 0 where
+  pub answer : Counted
+  pub output : List ℕ
+
+abbrev pub hostedAck : Acknowledges → HostedAck
+hostedAck a = record { answer = inNumbers (a .says); output = a .output }
+
+abbrev pub wrote : Counted → List ℕ → HostedAck
+wrote answer output = record { answer = answer; output = output }

@@ -1,0 +1,27 @@
+-- Any two results that a promise allows are equal: answer, the state behind the reference, and every lent byte. Both forms of a call have one promise, so one line serves both. Assumes nothing.
+use Prim.Native.Nat.{ℕ}
+use mathlib.Core.Path.{_≡_, ap}
+use mathlib.Core.List.{List}
+use Rattle.terms.specs.declared.SeqNo.{SeqNo}
+use Rattle.terms.proofs.Determined.{determined}
+use Rattle.receiver.specs.Answers.{Outcome}
+use Rattle.receiver.specs.Accept.{acceptOf}
+use Rattle.receiver.specs.Take.{takeOf}
+use Rattle.receiver.specs.declared.Answer.{Answer}
+use Rattle.receiver.specs.declared.Given.{Given}
+use Rattle.receiver.specs.declared.Receiver.{Receiver}
+use Rattle.receiver.proofs.Determined.{said-one, said-of-one}
+use Rattle.inplace.specs.Behind.{acceptedBehind, tookBehind}
+
+module _ (r s t : Receiver) (x y : List ℕ) where
+  pub accept-determined : (number : SeqNo) (payload store : List ℕ) (a b : Answer)
+      → acceptedBehind a s x ≡ acceptOf r number payload store → acceptedBehind b t y ≡ acceptOf r number payload store → (a ≡ b) × (s ≡ t) × (x ≡ y)
+  accept-determined number payload store a b p q =
+      let e = determined p q in
+      (said-one a b (ap (λ (o : Outcome). o .says) e), ap (λ (o : Outcome). o .state) e, ap (λ (o : Outcome). o .lent) e)
+
+  pub take-determined : (store output : List ℕ) (a b : Given)
+      → tookBehind a s x ≡ takeOf r store output → tookBehind b t y ≡ takeOf r store output → (a ≡ b) × (s ≡ t) × (x ≡ y)
+  take-determined store output a b p q =
+      let e = determined p q in
+      (said-of-one a b (ap (λ (o : Outcome). o .says) e), ap (λ (o : Outcome). o .state) e, ap (λ (o : Outcome). o .lent) e)

@@ -1,0 +1,3 @@
+pub mod InMem
+pub mod State
+pub mod Determined

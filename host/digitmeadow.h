@@ -1,0 +1,87 @@
+/* The receiving half of an I2P stream, for hosts: libhost.a, made by `rt staticlib host`, for Linux on x86-64.
+ *
+ * Every call is total: whatever the bytes, numbers and states, it ends, reads and writes only what it was lent, and answers. No call
+ * keeps a pointer, allocates, waits or locks. What each does is proved; the definitions are in crates/host/specs and those that they name.
+ *
+ * What the host owes, since C cannot check it: a pointer is to as many bytes as the length after it says, and to one struct where none
+ * does; it may be anything but null where the length is 0; what a call may change overlaps nothing else that the call is lent.
+ *
+ * A refusal is a number, 1 to 25, from document 01's table, and 0 is none. A refused call changes nothing. */
+#ifndef DIGITMEADOW_H
+#define DIGITMEADOW_H
+
+/* The widths, by what the compiler itself knows, so that this header needs no other. */
+typedef __UINT8_TYPE__ digitmeadow_u8;
+typedef __UINT16_TYPE__ digitmeadow_u16;
+typedef __UINT32_TYPE__ digitmeadow_u32;
+typedef __SIZE_TYPE__ digitmeadow_size;
+
+/* A receiver's state. The host keeps it and lends it, beside a store of exactly 512 * slot bytes. Made by hand or damaged, it is
+ * refused with 11 unless it keeps document 01's rules. */
+struct digitmeadow_receiver {
+    digitmeadow_u32 slot;        /* the slot size S, 1 to 1,812 */
+    digitmeadow_u32 next;        /* the next number to take */
+    digitmeadow_u32 highest;     /* the highest number accepted, or the one that the start came after */
+    digitmeadow_u16 marks[512];  /* a slot's mark: 0 where it is free, the held payload's length and one where it is not */
+};
+
+/* A refusal's number, or 0 and how many bytes were copied or written. */
+struct digitmeadow_counted {
+    digitmeadow_u32 refusal;
+    digitmeadow_size count;
+};
+
+/* Where a part of a packet stands in the packet. An absent part has no byte. */
+struct digitmeadow_part {
+    digitmeadow_size at;
+    digitmeadow_size len;
+};
+
+/* A packet as it is read. Where the read is refused, every other number is 0 and every part is empty. */
+struct digitmeadow_fields {
+    digitmeadow_u32 refusal;
+    digitmeadow_u32 send_stream_id;
+    digitmeadow_u32 recv_stream_id;
+    digitmeadow_u32 seq_nro;
+    digitmeadow_u32 ack_through;
+    digitmeadow_u16 flags;
+    digitmeadow_u16 delay;       /* 0 where bit 6 is clear */
+    digitmeadow_u16 max_size;    /* 0 where bit 7 is clear */
+    digitmeadow_u8 resend_delay;
+    digitmeadow_size leftover;   /* how many option bytes stand after the last option */
+    struct digitmeadow_part nacks;  /* four bytes each, big-endian */
+    struct digitmeadow_part destination;
+    struct digitmeadow_part signature;
+    struct digitmeadow_part payload;
+};
+
+_Static_assert(sizeof(struct digitmeadow_receiver) == 1036, "a receiver's state is 1,036 bytes");
+_Static_assert(sizeof(struct digitmeadow_counted) == 16, "an answer with a count is 16 bytes");
+_Static_assert(sizeof(struct digitmeadow_fields) == 104, "a packet's fields are 104 bytes");
+
+/* Reads a packet: every field, or refusal 1 to 6. Any bytes are answered. */
+struct digitmeadow_fields digitmeadow_read(const digitmeadow_u8 *packet, digitmeadow_size length);
+
+/* Starts a receiver after the number s, with slots of slot bytes: next is s + 1. Gives 0, or 10 where the slot size or the store's
+ * length is wrong, or 12 where s is 4,294,967,295. The store is only measured. The state need not be set before; a refused start
+ * leaves one that every later call refuses with 11. */
+digitmeadow_u32 digitmeadow_start(
+    struct digitmeadow_receiver *r, digitmeadow_u32 s, digitmeadow_u32 slot, const digitmeadow_u8 *store, digitmeadow_size store_length);
+
+/* Accepts a packet's payload under its number, empty ones too: it stands in the store until it is taken. Gives 0, or 11, 10, 12, 13,
+ * 14, 15 or 16, the first of these that applies. */
+digitmeadow_u32 digitmeadow_accept(
+    struct digitmeadow_receiver *r, digitmeadow_u32 number, const digitmeadow_u8 *payload, digitmeadow_size payload_length,
+    digitmeadow_u8 *store, digitmeadow_size store_length);
+
+/* Takes the next payload, if it is held: copies it to the output's front, frees its slot, and gives its length. Refused with 11, 10,
+ * 17 where nothing is ready, or 7 where the output is shorter than the payload. */
+struct digitmeadow_counted digitmeadow_take(
+    struct digitmeadow_receiver *r, const digitmeadow_u8 *store, digitmeadow_size store_length, digitmeadow_u8 *output, digitmeadow_size output_length);
+
+/* Writes the plain acknowledgement of a receiver to the output's front, with both stream ids in wire order, and gives its length, for
+ * which 1,044 bytes are always enough. Refused with 11, 10, or 7 where the output is shorter than this acknowledgement. */
+struct digitmeadow_counted digitmeadow_acknowledge(
+    const struct digitmeadow_receiver *r, digitmeadow_u32 send_stream_id, digitmeadow_u32 recv_stream_id, digitmeadow_u8 *output, digitmeadow_size output_length);
+
+#endif
