@@ -3,10 +3,9 @@ use Prim.Native.Nat.{ℕ, zero, suc, _-_, _≤_, _<_}
 use mathlib.Core.Path.{_≡_, refl, sym, _∙_, ap}
 use mathlib.Core.Bool.{Bool, and-false, true, false, true≢false}
 use mathlib.Core.List.{List, [], _∷_}
-use native.Mathlib.Nat.{not-suc-le-zero}
 use native.Mathlib.Decide.{ℕ-discrete, decLe}
 use native.Mathlib.Omega.{arith}
-use borrow.Author.Tests.{ltb-true, leb-true, le-leb, lt-leb, ne-eqb, eqb-true}
+use borrow.Author.Tests.{ltb-true, le-leb, lt-leb, ne-eqb, eqb-true}
 use lib.Dec.{ltb}
 use lib.ListN.{length, take}
 use Rattle.terms.specs.Lists.{all}
@@ -23,7 +22,7 @@ use Rattle.sender.specs.Resend.{runWhile, aged, expiredOf, isEmpty, isIn}
 use Rattle.sender.proofs.Tables.{replaced-at}
 use Rattle.sending.specs.Meaning.{Standing, unmade, waits, flies, gone, markOf, sentOf, standing, doesFly, Sound}
 use Rattle.sending.specs.Steps.{goesAgain, resentAs}
-use Rattle.sending.proofs.Counts.{by-bool}
+use Rattle.sending.proofs.Counts.{by-bool, none-in}
 use Rattle.sending.proofs.Stands.{in-flight-is, facts, own-place, marked-in, marked-is, flies-told}
 
 -- what is in the front of a run's front is in the run
@@ -52,10 +51,6 @@ none-again p f clock n unmade = refl
 none-again p f clock n (waits packet) = refl
 none-again p f clock n (flies packet sent) = rw (f n)
 none-again p f clock n gone = refl
-
-pub none-in : (l : List ℕ) → isEmpty l ≡ true → (n : ℕ) → isIn l n ≡ false
-none-in [] t n = refl
-none-in (x ∷ l) t n = absurd (not-suc-le-zero (leb-true (length (x ∷ l)) 0 t))
 
 -- the expired fly
 pub expired-flies : (s : Sender) (store : List ℕ) (clock n : ℕ) → isIn (expiredOf s clock) n ≡ true → doesFly (standing s store n) ≡ true

@@ -6,7 +6,7 @@ use mathlib.Core.List.{List, [], _∷_}
 use native.Mathlib.Nat.{sub-zero, not-suc-le-zero, le-of-suc-le-suc}
 use native.Mathlib.Decide.{ℕ-discrete, decLt}
 use native.Mathlib.Omega.{arith}
-use borrow.Author.Tests.{eq-eqb, ne-eqb, lt-ltb, le-ltb}
+use borrow.Author.Tests.{leb-true, eq-eqb, ne-eqb, lt-ltb, le-ltb}
 use lib.Dec.{ltb, eqb}
 use lib.ListN.{length, set}
 use Rattle.terms.specs.Ladder.{_when_else_}
@@ -14,7 +14,7 @@ use Rattle.terms.proofs.Laws.{case, rung}
 use Rattle.receiver.specs.Answers.{Said, refusal}
 use Rattle.places.specs.Table.{_!_, countOf, placeOf}
 use Rattle.sender.specs.Numbers.{run, numbersAt, markedWith, replaced}
-use Rattle.sender.specs.Resend.{isIn}
+use Rattle.sender.specs.Resend.{isEmpty, isIn}
 use Rattle.sender.proofs.Search.{beyond, place-is, run-none}
 use Rattle.sender.proofs.Resending.{in-run, not-in}
 use Rattle.sending.specs.Steps.{isFair}
@@ -38,6 +38,11 @@ run-has p next n =
     (λ f. rw (lt-ltb n next q, f, not-in p n next 0 (λ t _. true≢false (sym t ∙ f)))))
     (λ (q : n < next → ⊥). let b : next ≤ n = omega arith in rw (le-ltb n next b, not-in p n next 0 (λ _ h. omega arith)))
     (decLt n next)
+
+-- a list without elements has no number in it
+pub none-in : (l : List ℕ) → isEmpty l ≡ true → (n : ℕ) → isIn l n ≡ false
+none-in [] t n = refl
+none-in (x ∷ l) t n = absurd (not-suc-le-zero (leb-true (length (x ∷ l)) 0 t))
 
 -- tests that agree have the same run, and one that passes at one number more has one more in it
 pub run-same : (p q : ℕ → Bool) → ((n : ℕ) → p n ≡ q n) → (from count : ℕ) → run p from count ≡ run q from count

@@ -27,9 +27,9 @@ use Rattle.sender.proofs.Tables.{replaced-length, replaced-at}
 use Rattle.sender.proofs.Outcomes.{clock-fair}
 use Rattle.sending.specs.Meaning.{standing, Sound}
 use Rattle.sending.specs.Steps.{isFair, goesAgain, resentAs}
-use Rattle.sending.proofs.Counts.{by-bool, fair-rung}
+use Rattle.sending.proofs.Counts.{by-bool, fair-rung, none-in}
 use Rattle.sending.proofs.Stands.{facts, counts-fit}
-use Rattle.sending.proofs.Again.{none-again, none-in, expired-flies, idle-none, flies-there, retimed-sound, resent-means}
+use Rattle.sending.proofs.Again.{none-again, expired-flies, idle-none, flies-there, retimed-sound, resent-means}
 
 -- what a resend that is done changes
 pub record GoesAgain (s : Sender) (clock : ℕ) (path : Bool) (store given : List ℕ) : Type 0 where

@@ -2,11 +2,12 @@
 -- number stands as it stood, and the state stays sound. Assumes nothing.
 use Prim.Native.Nat.{ℕ, _+_, _≤_, _<_}
 use mathlib.Core.Path.{_≡_, refl, sym, _∙_, ap}
-use mathlib.Core.Bool.{true}
+use mathlib.Core.Bool.{Bool, true, false, true≢false}
 use mathlib.Core.List.{List, [], _∷_}
-use native.Mathlib.Decide.{decLe}
+use mathlib.Core.Logic.{_↔_}
+use native.Mathlib.Decide.{decLe, decLt}
 use native.Mathlib.Omega.{arith}
-use borrow.Author.Tests.{le-leb, ltb-true}
+use borrow.Author.Tests.{lt-ltb, le-leb, ltb-true}
 use lib.Dec.{leb, ltb}
 use lib.ListN.{length}
 use Rattle.terms.specs.Ladder.{_when_else_}
@@ -22,11 +23,11 @@ use Rattle.places.specs.declared.Sender.{Sender}
 use Rattle.sender.specs.Numbers.{markedWith, waiting, inFlight, sizeOf, packetOf, clockWrong}
 use Rattle.sender.specs.Resend.{isEmpty}
 use Rattle.sender.specs.Send.{sendSaid, armed, departed, sendOf}
-use Rattle.sender.proofs.Outcomes.{Leaves, leaves, Ranked, ranked-of, send-refused, send-done}
+use Rattle.sender.proofs.Outcomes.{run-passes, run-below, Leaves, leaves, Ranked, ranked-of, send-refused, send-done}
 use Rattle.sending.specs.Meaning.{waits, standing, doesWait, Sound}
 use Rattle.sending.specs.Steps.{isFair, sentAs}
-use Rattle.sending.proofs.Counts.{fair-rung, run-lowest}
-use Rattle.sending.proofs.Stands.{place-long, in-flight-count, waits-at, facts, stands-at, waits-told}
+use Rattle.sending.proofs.Counts.{none-in, fair-rung, run-lowest}
+use Rattle.sending.proofs.Stands.{place-long, in-flight-count, waits-at, facts, stands-at, waiting-is, waits-told}
 use Rattle.sending.proofs.Moves.{armed-fits, moved-sound, moved-means}
 
 -- what a send that is done changes: the lowest number that waits, of which its packet stands at the output's front, flies from the clock on, and
@@ -120,6 +121,21 @@ module _ (s : Sender) (clock : ℕ) (store output : List ℕ) where
       by-said (sendOf s clock store output .says)
       (λ n e. rw (send-nothing n e .0) sound)
       (λ given e. rw (became given e sound .0) (departed-sound given e sound))
+
+  -- no number waits exactly if the list of those that wait is empty
+  pub nothing-waits : (isEmpty (waiting s) ≡ true) ↔ ((n : ℕ) → doesWait (standing s store n) ≡ false)
+  nothing-waits = (
+    λ t n. sym (waiting-is s store n) ∙ none-in (waiting s) t n,
+    λ f.
+        case
+        (λ (q : 0 < length (waiting s)).
+        let p : ℕ → Bool = λ m. markedWith 1 (s .marks) (placeOf (s .numbers) m) in
+        let below : waiting s ! 0 < s .next .0 = omega (arith, run-below p (s .next .0) 0 0 q) in
+        let waits-there = waits-told s store (waiting s ! 0) in
+        absurd (true≢false ((rw (lt-ltb (waiting s ! 0) (s .next .0) below, run-passes p (s .next .0) 0 0 q) at waits-there) ∙ f (waiting s ! 0))))
+        (λ (q : 0 < length (waiting s) → ⊥). le-leb (length (waiting s)) 0 (omega arith))
+        (decLt 0 (length (waiting s))),
+  )
 
   -- its answer in a sound state: 17 exactly if no number waits, 22 exactly if one does and as many fly as the window or more
   pub send-answer : Sound s store → sendOf s clock store output .says
