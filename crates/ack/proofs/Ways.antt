@@ -91,14 +91,14 @@ pub nacks-front : (next highest : ℕ) (marks before : List ℕ) (acks : AckFiel
 unfolding fieldsFrom nacksFrom
 nacks-front next highest marks before acks table e f = rw (e, f) (front (missingFrom next highest marks) before)
 
--- PLAIN
+-- PACKETS
 
--- the fields of a plain ack, whose flags and delay one test decides
-abbrev plainly : Bool → ℕ → StreamId → StreamId → Fields
-plainly choked through send recv = record {
+-- the fields of a packet with a receiver's ack fields, whose flags and delay one test decides
+abbrev pub fieldsBy : Bool → ℕ → StreamId → StreamId → ℕ → Fields
+fieldsBy choked through send recv number = record {
   «send_stream_id» = send;
   «recv_stream_id» = recv;
-  «seq_nro» = record { 0 = 0 };
+  «seq_nro» = record { 0 = number };
   «ack_through» = record { 0 = through };
   «resend_delay» = 0;
   flags = 2 ^ 6 when choked else 0;
@@ -106,27 +106,37 @@ plainly choked through send recv = record {
   «max_size» = 0;
 }
 
-module _ (through : ℕ) (send recv : StreamId) (nacks : List ℕ) where
-  -- how long it is
-  plainly-long : (choked : Bool) → length (packetBytes (plainly choked through send recv) nacks [] [] []) ≡ 22 + 4 * length nacks + (2 when choked else 0)
-  plainly-long true = omega (arith, length-packet (plainly true through send recv) nacks [] [] [], length-options (plainly true through send recv) [] [])
-  plainly-long false = omega (arith, length-packet (plainly false through send recv) nacks [] [] [], length-options (plainly false through send recv) [] [])
-
-  -- the writer refuses it only for an output that is too short
-  plainly-written : (choked : Bool) (room : ℕ) → length nacks ≤ 255
-      → writeOf (plainly choked through send recv) nacks [] [] [] room
-      ≡ (refused OutputShort when ltb room (22 + 4 * length nacks + (2 when choked else 0)) else written (22 + 4 * length nacks + (2 when choked else 0)) 0)
-  unfolding judgeOf sizesOf
-  plainly-written true room few =
-      let e : packetLength 64 (length nacks) 0 0 0 ≡ 22 + 4 * length nacks + 2 = omega arith in
-      simp (le-ltb 255 (length nacks) few, e, le-ltb 65535 (22 + 4 * length nacks + 2) (omega arith))
-  plainly-written false room few =
-      let e : packetLength 0 (length nacks) 0 0 0 ≡ 22 + 4 * length nacks + 0 = omega arith in
-      simp (le-ltb 255 (length nacks) few, e, le-ltb 65535 (22 + 4 * length nacks + 0) (omega arith))
+abbrev pub packetBy : Bool → ℕ → StreamId → StreamId → ℕ → List ℕ → List ℕ → List ℕ
+packetBy choked through send recv number nacks payload = packetBytes (fieldsBy choked through send recv number) nacks [] [] payload
 
 two-at-most : (t : Bool) → (2 when t else 0) ≤ 2
 two-at-most true = omega arith
 two-at-most false = omega arith
+
+module _ (through : ℕ) (send recv : StreamId) (number : ℕ) (nacks payload : List ℕ) where
+  -- how long it is
+  pub packet-long : (choked : Bool) → length (packetBy choked through send recv number nacks payload) ≡ 22 + 4 * length nacks + (2 when choked else 0) + length payload
+  packet-long true =
+      omega (arith, length-packet (fieldsBy true through send recv number) nacks [] [] payload, length-options (fieldsBy true through send recv number) [] [])
+  packet-long false =
+      omega (arith, length-packet (fieldsBy false through send recv number) nacks [] [] payload, length-options (fieldsBy false through send recv number) [] [])
+
+  pub packet-most : (choked : Bool) → length nacks ≤ 255 → length (packetBy choked through send recv number nacks payload) ≤ 1044 + length payload
+  packet-most choked few = omega (arith, packet-long choked, two-at-most choked)
+
+  -- with a payload of at most 64,491 bytes the writer refuses it only for an output that is too short
+  pub packet-written : (choked : Bool) (room : ℕ) → length nacks ≤ 255 → length payload ≤ 64491
+      → writeOf (fieldsBy choked through send recv number) nacks [] [] payload room
+      ≡ (refused OutputShort when ltb room (length (packetBy choked through send recv number nacks payload)) else written (length (packetBy choked through send recv number nacks payload)) 0)
+  unfolding judgeOf sizesOf
+  packet-written true room few short =
+      let e : packetLength 64 (length nacks) 0 0 (length payload) ≡ 22 + 4 * length nacks + 2 + length payload = omega arith in
+      rw (packet-long true) (simp (le-ltb 255 (length nacks) few, e, le-ltb 65535 (22 + 4 * length nacks + 2 + length payload) (omega arith)))
+  packet-written false room few short =
+      let e : packetLength 0 (length nacks) 0 0 (length payload) ≡ 22 + 4 * length nacks + 0 + length payload = omega arith in
+      rw (packet-long false) (simp (le-ltb 255 (length nacks) few, e, le-ltb 65535 (22 + 4 * length nacks + 0 + length payload) (omega arith)))
+
+-- PLAIN
 
 short-told : (t : Bool) (why : Refusal) (n : ℕ) → refused why ≡ (refused OutputShort when t else written n 0) → refusal (numberOf why) ≡ (refusal 7 when t else values (n ∷ []))
 short-told true why n e = ap refusal (ap refusal-of e)
@@ -137,22 +147,19 @@ length-told true m at n e = absurd (omega (arith, ap refusal-of e))
 length-told false m at n e = ap (λ (k : ℕ). values (k ∷ [])) (ap length-of e)
 
 module _ (next highest : ℕ) (marks : List ℕ) (send recv : StreamId) where
-  pub ack-long : length (plainAck next highest marks send recv) ≡ 22 + 4 * length (nacksFrom next highest marks) + (2 when atLeast255 (missingFrom next highest marks) else 0)
-  unfolding plainAck fieldsFrom
-  ack-long =
-      let m = missingFrom next highest marks in
-      plainly-long (ackThrough m highest) send recv (nacksFrom next highest marks) (atLeast255 m)
-
   pub ack-most : length (plainAck next highest marks send recv) ≤ 1044
-  ack-most = omega (arith, ack-long, nacks-few next highest marks, two-at-most (atLeast255 (missingFrom next highest marks)))
+  unfolding plainAck fieldsFrom
+  ack-most =
+      let m = missingFrom next highest marks in
+      packet-most (ackThrough m highest) send recv 0 (nacksFrom next highest marks) [] (atLeast255 m) (nacks-few next highest marks)
 
   -- what the writer answers to a plain ack
   pub ack-written : (room : ℕ) → writeOf (plainFields (fieldsFrom next highest marks) send recv) (nacksFrom next highest marks) [] [] [] room
       ≡ (refused OutputShort when ltb room (length (plainAck next highest marks send recv)) else written (length (plainAck next highest marks send recv)) 0)
-  unfolding fieldsFrom
+  unfolding plainAck fieldsFrom
   ack-written room =
       let m = missingFrom next highest marks in
-      rw ack-long (plainly-written (ackThrough m highest) send recv (nacksFrom next highest marks) (atLeast255 m) room (nacks-few next highest marks))
+      packet-written (ackThrough m highest) send recv 0 (nacksFrom next highest marks) [] (atLeast255 m) room (nacks-few next highest marks) (omega arith)
 
   module _ (acks : AckFields) (nacks output after : List ℕ) (w : Writing) (e : acks ≡ fieldsFrom next highest marks) (f : nacks ≡ nacksFrom next highest marks)
       (says : said w ≡ writeOf (plainFields acks send recv) nacks [] [] [] (length output))

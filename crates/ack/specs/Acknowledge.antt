@@ -23,18 +23,22 @@ abbrev pub said : Acknowledged → Said
 said (A.Written length) = values (length ∷ [])
 said (A.Refused why) = refusal (numberOf why)
 
--- plain ack: both stream ids as given with the call, in wire order, sequence 0, resend delay 0, with the ack fields
-abbrev pub plainFields : AckFields → StreamId → StreamId → Fields
-plainFields acks send recv = record {
+-- a packet with a receiver's ack fields: both stream ids as given with the call, in wire order, the packet's number, resend delay 0
+abbrev pub ackedFields : AckFields → StreamId → StreamId → ℕ → Fields
+ackedFields acks send recv number = record {
   «send_stream_id» = send;
   «recv_stream_id» = recv;
-  «seq_nro» = record { 0 = 0 };
+  «seq_nro» = record { 0 = number };
   «ack_through» = acks .«ack_through»;
   «resend_delay» = 0;
   flags = acks .flags;
   delay = acks .delay;
   «max_size» = 0;
 }
+
+-- plain ack: sequence 0
+abbrev pub plainFields : AckFields → StreamId → StreamId → Fields
+plainFields acks send recv = ackedFields acks send recv 0
 
 -- its bytes: no destination, no signature, no payload
 unfoldable pub plainAck : ℕ → ℕ → List ℕ → StreamId → StreamId → List ℕ

@@ -33,11 +33,11 @@ and-false true true f = absurd (f refl refl)
 and-false true false f = refl
 and-false false b f = refl
 
-or-false-left : (a b : Bool) → (a || b) ≡ false → a ≡ false
+pub or-false-left : (a b : Bool) → (a || b) ≡ false → a ≡ false
 or-false-left true b e = e
 or-false-left false b e = refl
 
-or-false-right : (a b : Bool) → (a || b) ≡ false → b ≡ false
+pub or-false-right : (a b : Bool) → (a || b) ≡ false → b ≡ false
 or-false-right true true e = e
 or-false-right true false e = refl
 or-false-right false b e = e

@@ -1,6 +1,7 @@
 // The sending half's state: 192 places for packets beside a store that the host lends, the rules behind refusal 11, and start.
 // Ports what `Stream` keeps for sending. Its `BTreeMap` of unacked packets and its `VecDeque` of pending ones become one table.
 ghost use mathlib.Core.Path.{_≡_};
+ghost use mathlib.Core.Bool.{true};
 ghost use Prim.Native.Nat.{_+_, _≤_, _<_, min};
 ghost use lib.Dec.{eqb};
 ghost use lib.ListN.{length};
@@ -72,10 +73,31 @@ fn alone(numbers: &[u32], i: usize) -> bool
     absent(&numbers[0..i], x)
 }
 
+// A quick test that tells, where it passes, that no number but 0 stands twice: each has a remainder by 2,048 of its own. The numbers of
+// a stream lie close together, so its states pass, and the long comparison is for those that do not.
+fn spread(numbers: &[u32]) -> bool
+    ensures { λ r. ⌜ (r ≡ true → every (length (now (numbers .entry))) (aloneAt (now (numbers .entry))) ≡ true) ⌝ }
+{
+    let mut seen = [0u8; 2048];
+    let mut ok = true;
+    let mut i = 0;
+    while i < numbers.len() {
+        let x = numbers[i];
+        let at = (x % 2048) as usize;
+        ok = ok & ((x == 0) | (seen[at] == 0));
+        seen[at] = 1;
+        i += 1;
+    }
+    ok
+}
+
 // Whether no number but 0 stands twice.
 fn all_alone(numbers: &[u32]) -> bool
     ensures { λ r. ⌜ r ≡ every (length (now (numbers .entry))) (aloneAt (now (numbers .entry))) ⌝ }
 {
+    if spread(numbers) {
+        return true;
+    }
     let mut ok = true;
     let mut i = 0;
     while i < numbers.len() {

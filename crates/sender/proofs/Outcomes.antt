@@ -1,7 +1,7 @@
 -- What the calls find in a valid state, and what they leave once the answer is known. Assumes nothing.
 use Prim.Native.Nat.{ℕ, zero, suc, _+_, _-_, _*_, _≤_, _<_}
 use mathlib.Core.Path.{_≡_, refl, sym, _∙_, ap}
-use mathlib.Core.Bool.{Bool, true, false, _||_, not, true≢false}
+use mathlib.Core.Bool.{Bool, true, false, not}
 use mathlib.Core.List.{List, [], _∷_}
 use native.Mathlib.Nat.{not-suc-le-zero, le-of-suc-le-suc, mul-le-mul-right}
 use native.Mathlib.Decide.{ℕ-discrete, decLt}
@@ -23,7 +23,7 @@ use Rattle.places.specs.Table.{_!_, isFlying, countOf, placeOf}
 use Rattle.places.specs.Start.{Outcome}
 use Rattle.places.specs.Rules.{rules, sizesFit}
 use Rattle.places.specs.declared.Sender.{Sender}
-use Rattle.places.proofs.Facts.{Ruled, ruled, Sized, sized}
+use Rattle.places.proofs.Facts.{or-false-left, or-false-right, Ruled, ruled, Sized, sized}
 use Rattle.sender.specs.Numbers.{run, numbersAt, markedWith, waiting, inFlight, atRank, sizeOf, offsetOf, bytesAt, packetOf, clockWrong, Flags, Tidy}
 use Rattle.sender.specs.Fetch.{fetchSaid, Fetches, fetchOf}
 use Rattle.sender.specs.Send.{saidSent, sendSaid, armed, moved, departed, sendOf}
@@ -141,14 +141,7 @@ module _ (s : Sender) (rank : ℕ) (store output : List ℕ) where
 -- a clock that is not wrong
 pub clock-fair : (last clock : ℕ) → clockWrong last clock ≡ false → (last ≤ clock) × (clock ≤ 1000000000000000)
 unfolding clockWrong
-clock-fair last clock e = (ltb-false _ _ (left-false (ltb clock last) (ltb 1000000000000000 clock) e), ltb-false _ _ (right-false (ltb clock last) (ltb 1000000000000000 clock) e)) where
-  left-false : (a b : Bool) → (a || b) ≡ false → a ≡ false
-  left-false true b e = e
-  left-false false b e = refl
-
-  right-false : (a b : Bool) → (a || b) ≡ false → b ≡ false
-  right-false true b e = absurd (true≢false e)
-  right-false false b e = e
+clock-fair last clock e = (ltb-false _ _ (or-false-left (ltb clock last) (ltb 1000000000000000 clock) e), ltb-false _ _ (or-false-right (ltb clock last) (ltb 1000000000000000 clock) e))
 
 -- a rank that is inside has its number at a place
 pub ranked-of : (s : Sender) (row : length (s .numbers) ≡ 192) (table : length (s .marks) ≡ 192) (width : s .next .0 ≤ 4294967295) (wanted rank : ℕ) → 1 ≤ wanted

@@ -1,4 +1,3 @@
--- What belongs to no one function: the laws that callers cite, that the promises determine their results, and document 01's numbers.
+-- What belongs to no one function: the laws that callers cite, and that the promises determine their results.
 pub mod Laws
 pub mod Determined
-pub mod Worked

@@ -1,6 +1,6 @@
--- `places::all_alone` meets its contract: after i turns the flag speaks of the first i numbers. Assumes nothing.
+-- `places::all_alone` meets its contract: the quick test tells it, or after i turns the flag speaks of the first i numbers. Assumes nothing.
 use Prim.Native.Nat.{_-_, _≤_}
-use mathlib.Core.Path.{_≡_}
+use mathlib.Core.Path.{_≡_, sym}
 use native.Mathlib.Omega.{arith}
 use lib.ListN.{length}
 use Rattle.places.specs.Table.{every, aloneAt}
@@ -14,6 +14,9 @@ Inv-loop numbers ok₀ i₀ ok i = (i ≤ length numbers) × (ok ≡ every i (al
 
 abbrev μ-loop : tie.MeasureT-loop
 μ-loop numbers ok₀ i₀ ok i = length numbers - i
+
+spread-requires : tie.Need-spread-requires Inv-loop μ-loop
+spread-requires c κs = search needs
 
 loop-holds : tie.Need-loop-holds Inv-loop μ-loop
 loop-holds c = (omega arith, every-none _)
@@ -31,9 +34,12 @@ loop-again : tie.Need-loop-again Inv-loop μ-loop
 loop-again c = (omega arith, every-turn _ _ _ _ (c .before .before .loop .inv .1) (c .alone .ensures))
 
 returns : tie.Need-returns Inv-loop μ-loop
-returns c = every-last _ _ _ _ (c .before .loop .inv .1) (omega arith)
+returns c = sym (c .before .spread .ensures (c .if1 .taken))
+
+returns-2 : tie.Need-returns-2 Inv-loop μ-loop
+returns-2 c = every-last _ _ _ _ (c .before .loop .inv .1) (omega arith)
 
 pub all-alone-spec : {M : Type 1} → statement M
 all-alone-spec =
     tie.close
-    (tie.spec Inv-loop μ-loop loop-holds alone-requires add-i loop-less loop-again returns)
+    (tie.spec Inv-loop μ-loop spread-requires returns loop-holds alone-requires add-i loop-less loop-again returns-2)

@@ -1,0 +1,16 @@
+-- `sender::again::below_flag` meets its contract: the tests that led to each return decide the definition. Assumes nothing.
+use borrow.Author.Tests.{eq-eqb, ne-eqb, lt-ltb, le-ltb}
+use Rattle.sender.proofs.again.below_flag.Statement.{statement}
+use Rattle.sender.proofs.again.below_flag.Tie as tie
+
+returns : tie.Need-returns
+returns c = simp (ne-eqb _ _ (c .if1 .taken))
+
+returns-2 : tie.Need-returns-2
+returns-2 c = simp (eq-eqb _ _ (c .before .if1 .left), lt-ltb _ _ (c .if2 .taken))
+
+returns-3 : tie.Need-returns-3
+returns-3 c = simp (eq-eqb _ _ (c .before .if1 .left), le-ltb _ _ (c .if2 .left))
+
+pub below-flag-spec : {M : Type 1} → statement M
+below-flag-spec = tie.close (tie.spec returns returns-2 returns-3)

@@ -1,0 +1,12 @@
+-- `sender::table::clock_wrong` meets its contract: it is the definition. Assumes nothing.
+use mathlib.Core.Path.{refl}
+use Rattle.sender.specs.Numbers.{clockWrong}
+use Rattle.sender.proofs.table.clock_wrong.Statement.{statement}
+use Rattle.sender.proofs.table.clock_wrong.Tie as tie
+
+returns : tie.Need-returns
+unfolding clockWrong
+returns c = refl
+
+pub clock-wrong-spec : {M : Type 1} → statement M
+clock-wrong-spec = tie.close (tie.spec returns)

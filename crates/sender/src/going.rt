@@ -1,0 +1,85 @@
+// send: a waiting packet leaves.
+use super::Departure;
+use super::table;
+use places::Sender;
+use places::Timer;
+use terms::Refusal;
+use terms::SeqNo;
+ghost use mathlib.Core.Path.{_≡_};
+ghost use Prim.Native.Nat.{_<_};
+ghost use Rattle.sender.specs.Send.{armed, moved, sendSaid, saidSent};
+
+// What send answers: the first refusal that applies, in document 01's order, or the packet that leaves.
+pub fn judge_send(s: Sender, clock: u64, store_length: usize, room: usize) -> Departure
+    ensures { λ r. ⌜ saidSent r ≡ sendSaid s clock «store_length» room ⌝ }
+{
+    let chunk = s.chunk;
+    let count = s.count;
+    let next = s.next.0;
+    let last = s.clock;
+    let window = s.window;
+    if !places::valid(s) {
+        return Departure::Refused(Refusal::StateBroken);
+    }
+    if !places::sizes_fit(chunk, count, store_length) {
+        return Departure::Refused(Refusal::SizeWrong);
+    }
+    if table::clock_wrong(last, clock) {
+        return Departure::Refused(Refusal::ClockWrong);
+    }
+    let number = table::ranked(&s.numbers, &s.marks, 1, 0, next);
+    if number == 4294967295 {
+        return Departure::Refused(Refusal::NothingThere);
+    }
+    if places::count_of(&s.marks, 2) >= window as usize {
+        return Departure::Refused(Refusal::WindowFull);
+    }
+    let at = places::place_of(&s.numbers, number);
+    let size = s.lengths[at] as usize;
+    if size > room {
+        return Departure::Refused(Refusal::OutputShort);
+    }
+    let lowest = SeqNo(number);
+    Departure::Packet {
+        number: lowest,
+        size: size,
+    }
+}
+
+// Arms the timer if it is unarmed.
+pub fn arm(timer: Timer, due: u64) -> Timer
+    ensures { λ r. ⌜ r ≡ armed timer due ⌝ }
+{
+    match timer {
+        Timer::Unarmed => Timer::At(due),
+        Timer::At(_) => timer,
+    }
+}
+
+// The state with the packet of a place in flight.
+pub fn departs(s: Sender, at: usize, clock: u64, timer: Timer) -> Sender
+    requires { ⌜ at < 192 ⌝ }
+    ensures { λ r. ⌜ r ≡ moved s at clock timer ⌝ }
+{
+    let mut sent = s.sent;
+    sent[at] = clock;
+    let mut marks = s.marks;
+    marks[at] = 2;
+    let numbers = s.numbers;
+    let lengths = s.lengths;
+    let timing = s.timing;
+    let next = s.next;
+    Sender {
+        chunk: s.chunk,
+        count: s.count,
+        next: next,
+        window: s.window,
+        timing: timing,
+        timer: timer,
+        clock: clock,
+        numbers: numbers,
+        lengths: lengths,
+        sent: sent,
+        marks: marks,
+    }
+}

@@ -1,0 +1,3 @@
+pub mod Chunks
+pub mod Submit
+pub mod Steps

@@ -1,0 +1,22 @@
+-- Every line of the table holds: the definitions compute it. Assumes nothing.
+use mathlib.Core.Bool.{true}
+use mathlib.Core.Path.{_≡_, refl}
+use Rattle.writer.specs.Writing.{packetBytes}
+use Rattle.receiver.specs.Rules as R
+use Rattle.receiver.specs.Start.{startSaid}
+use Rattle.receiver.specs.Accept.{acceptSaid, accepts}
+use Rattle.receiver.specs.Take.{takeSaid, takes}
+use Rattle.ack.specs.Missing.{missingFrom}
+use Rattle.ack.specs.Fields.{fieldsFrom, nacksFrom}
+use Rattle.ack.specs.Acknowledge.{plainAck, acknowledgeSaid, acknowledges}
+use Rattle.timer.specs.Timer.{sampledOf, rtoOf, timingFits}
+use Rattle.timer.specs.Window.{grownOf, fallenOf}
+use Rattle.places.specs.Rules as P
+use Rattle.sender.specs.Numbers.{run, clockWrong}
+use Rattle.sender.specs.Resend.{isDue, resendRefusal, resendOf}
+use Rattle.worked.specs.Lines.{holds, allHold}
+use Rattle.worked.specs.Table.{table}
+
+pub worked : allHold table ≡ true
+unfolding holds startSaid acceptSaid accepts takeSaid takes R.rules R.slotFits R.sizesFit packetBytes missingFrom fieldsFrom nacksFrom plainAck acknowledgeSaid acknowledges sampledOf rtoOf timingFits grownOf fallenOf P.rules P.countsFit P.timerFits run clockWrong isDue resendRefusal resendOf
+worked = refl
