@@ -1,7 +1,9 @@
-// Reads a script of calls from standard input and answers each with a line: docs/DRIVE.md has the format, and the crate `script` is that format.
+// Reads a script of calls from standard input and answers each with a line: docs/DRIVE.md has the format, and the crate `drive_format` is that format.
 // A call is taken into the registers, made by the crate of its topic, and told from the registers.
 mod timing;
 
+use drive_format::take;
+use drive_format::tell;
 use script::input;
 use script::input::Window;
 use script::output;
@@ -10,8 +12,6 @@ use script::registers::Bank;
 use script::registers::Bytes;
 use script::registers::Output;
 use script::registers::Store;
-use script::take;
-use script::tell;
 
 // Makes the call of a letter.
 fn call(
@@ -28,7 +28,7 @@ fn call(
         b'S' | b'R' | b'B' | b'a' | b't' | b'k' => {
             drive_receiver::call(bank, given, out, received, letter)
         }
-        _ => drive_sender::call(bank, out, sent, letter),
+        _ => drive_sender::call(bank, given, out, sent, letter),
     }
 }
 

@@ -1,5 +1,5 @@
-// What `drive` calls on a sender: 'Z' starts it, 'P' and 'D' set its state and its store, 'v' judges the state, 's' sends, 'c' takes acks, 'e' resends,
-// 'h' fetches. The state and what a call asks stand in the registers, and its answer goes there.
+// What `drive` calls on a sender: 'Z' starts it, 'P' and 'D' set its state and its store, 'v' judges the state, 'u' submits, 's' sends, 'c' takes
+// acks, 'e' resends, 'h' fetches. The state and what a call asks stand in the registers, and its answer goes there.
 mod state;
 
 use lines::part;
@@ -7,6 +7,7 @@ use receiver::Answer;
 use receiver::Given;
 use script::registers;
 use script::registers::Bank;
+use script::registers::Bytes;
 use script::registers::COUNT;
 use script::registers::Output;
 use script::registers::SENDER;
@@ -17,6 +18,7 @@ use script::sum;
 use sender::Departure;
 use sender::Tally;
 use terms::SeqNo;
+use terms::StreamId;
 
 fn answer(bank: &mut Bank, answer: Answer) {
     match answer {
@@ -59,6 +61,27 @@ fn valid(bank: &mut Bank) {
     }
 }
 
+fn tally(bank: &mut Bank, answer: Tally) {
+    match answer {
+        Tally::Count(n) => registers::answer2(bank, 0, n as u64),
+        Tally::Refused(r) => registers::answer2(bank, r.number() as u64, 0),
+    }
+}
+
+// Submits with the receiver of the registers.
+fn submit(bank: &mut Bank, bytes: &[u8], store: &mut [u8]) {
+    let send = StreamId(registers::word32(bank, 0));
+    let recv = StreamId(registers::word32(bank, 1));
+    let s = state::given(bank);
+    let r = drive_receiver::state(bank);
+    let done = submit::submit(s, r, send, recv, bytes, store);
+    let after = done.state;
+    let said = done.answer;
+    state::keep(bank, after);
+    tally(bank, said);
+    bank[SUM] = sum::checksum(store);
+}
+
 fn departure(bank: &mut Bank, answer: Departure) {
     match answer {
         Departure::Packet { number, size } => {
@@ -77,13 +100,6 @@ fn send(bank: &mut Bank, store: &[u8], out: &mut [u8]) {
     state::keep(bank, after);
     departure(bank, said);
     bank[SUM] = sum::checksum(out);
-}
-
-fn tally(bank: &mut Bank, answer: Tally) {
-    match answer {
-        Tally::Count(n) => registers::answer2(bank, 0, n as u64),
-        Tally::Refused(r) => registers::answer2(bank, r.number() as u64, 0),
-    }
 }
 
 fn acks(bank: &mut Bank) {
@@ -120,7 +136,15 @@ fn fetch(bank: &mut Bank, store: &[u8], out: &mut [u8]) {
     bank[SUM] = sum::checksum(out);
 }
 
-// The calls with the front of the register as the output.
+// The calls with the front of a register as the store or the output.
+fn submit_to(bank: &mut Bank, bytes: &[u8], store: &mut [u8]) {
+    let n = registers::length(bank, SENDER_STORE);
+    if n > store.len() {
+        return;
+    }
+    submit(bank, bytes, &mut store[..n]);
+}
+
 fn send_to(bank: &mut Bank, store: &[u8], out: &mut [u8]) {
     let room = registers::length(bank, 1);
     if room > out.len() {
@@ -137,13 +161,15 @@ fn fetch_to(bank: &mut Bank, store: &[u8], out: &mut [u8]) {
     fetch(bank, store, &mut out[..room]);
 }
 
-pub fn call(bank: &mut Bank, out: &mut Output, store: &mut Store, letter: u8) {
+pub fn call(bank: &mut Bank, given: &Bytes, out: &mut Output, store: &mut Store, letter: u8) {
+    let n = registers::length(bank, 2);
     let held = registers::length(bank, SENDER_STORE);
     match letter {
         b'Z' => start(bank, part::front(store, held)),
         b'P' => set(bank),
         b'D' => set_store(bank, part::front(store, held)),
         b'v' => valid(bank),
+        b'u' => submit_to(bank, part::front(given, n), store),
         b's' => send_to(bank, part::front(store, held), out),
         b'c' => acks(bank),
         b'e' => resend(bank),

@@ -1,8 +1,8 @@
 -- The measure is what is left of the table.
 use Prim.Native.Nat.{_-_}
 use borrow.Author.Needs.{needs}
-use Rattle.script.proofs.table.row.Statement.{statement}
-use Rattle.script.proofs.table.row.Tie as tie
+use Rattle.drive_format.proofs.table.row.Statement.{statement}
+use Rattle.drive_format.proofs.table.row.Tie as tie
 
 abbrev Inv-loop : tie.InvT-loop
 Inv-loop letter i₀ i = Unit {0}

@@ -1,8 +1,8 @@
 -- The measure is what is left of the table.
 use Prim.Native.Nat.{_≤_, _-_}
 use borrow.Author.Needs.{needs}
-use Rattle.script.proofs.tell.parts.Statement.{statement}
-use Rattle.script.proofs.tell.parts.Tie as tie
+use Rattle.drive_format.proofs.tell.parts.Statement.{statement}
+use Rattle.drive_format.proofs.tell.parts.Tie as tie
 
 abbrev Inv-loop : tie.InvT-loop
 Inv-loop page₀ bank₀ at i₀ page bank i = i ≤ 1000

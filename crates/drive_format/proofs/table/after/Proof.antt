@@ -1,23 +1,23 @@
--- The measure is how many numbers are left.
-use Prim.Native.Nat.{_≤_, _-_}
+-- The measure is what is left of the table.
+use Prim.Native.Nat.{_-_}
 use borrow.Author.Needs.{needs}
-use Rattle.script.proofs.tell.blank.Statement.{statement}
-use Rattle.script.proofs.tell.blank.Tie as tie
+use Rattle.drive_format.proofs.table.after.Statement.{statement}
+use Rattle.drive_format.proofs.table.after.Tie as tie
 
 abbrev Inv-loop : tie.InvT-loop
-Inv-loop bank at width i₀ i = i ≤ width
+Inv-loop from i₀ i = Unit {0}
 
 abbrev μ-loop : tie.MeasureT-loop
-μ-loop bank at width i₀ i = width - i
+μ-loop from i₀ i = 1000 - i
 
 loop-holds : tie.Need-loop-holds Inv-loop μ-loop
 loop-holds c = search needs
 
-add-value : tie.Need-add-value Inv-loop μ-loop
-add-value c = search needs
+at-requires : tie.Need-at-requires Inv-loop μ-loop
+at-requires c κs = search needs
 
-value-requires : tie.Need-value-requires Inv-loop μ-loop
-value-requires c κs = search needs
+add-result : tie.Need-add-result Inv-loop μ-loop
+add-result c = search needs
 
 returns : tie.Need-returns Inv-loop μ-loop
 returns c = search needs
@@ -34,15 +34,15 @@ loop-again c = search needs
 returns-2 : tie.Need-returns-2 Inv-loop μ-loop
 returns-2 c = search needs
 
-pub blank-spec : {M : Type 1} → statement M
-blank-spec =
+pub after-spec : {M : Type 1} → statement M
+after-spec =
     tie.close
     (tie.spec
     Inv-loop
     μ-loop
     loop-holds
-    add-value
-    value-requires
+    at-requires
+    add-result
     returns
     add-i
     loop-less

@@ -3,11 +3,11 @@
 //
 // Kinds: a number of 1, 2, 4 or 8 bytes; `b` bytes; `n` NACKs; `o` an output; `s` and `z` the receiver's and the sender's store; `m` marks; `p` places.
 // Told: `R` the receiver's state; `P` the sender's; `+` the checksum of what was lent.
-use super::registers;
-use super::registers::ASKED;
-use super::registers::Bank;
-use super::registers::TOLD;
-use super::registers::WORD;
+use script::registers;
+use script::registers::ASKED;
+use script::registers::Bank;
+use script::registers::TOLD;
+use script::registers::WORD;
 
 pub const SIZE: usize = 1000;
 
@@ -30,6 +30,7 @@ pub fn at(i: usize) -> u8 {
         P sender 4444144188p P\n\
         D store z +\n\
         v valid  \n\
+        u submit 44b P+\n\
         s send 8o P+\n\
         c acks 4n8 P\n\
         e resend 81 P\n\

@@ -1,26 +1,32 @@
 -- The measure is what is left of the table.
-use Prim.Native.Nat.{_-_}
+use Prim.Native.Nat.{_≤_, _-_}
 use borrow.Author.Needs.{needs}
-use Rattle.script.proofs.table.after.Statement.{statement}
-use Rattle.script.proofs.table.after.Tie as tie
+use Rattle.drive_format.proofs.tell.word.Statement.{statement}
+use Rattle.drive_format.proofs.tell.word.Tie as tie
 
 abbrev Inv-loop : tie.InvT-loop
-Inv-loop from i₀ i = Unit {0}
+Inv-loop page₀ bank₀ at i₀ page bank i = i ≤ 1000
 
 abbrev μ-loop : tie.MeasureT-loop
-μ-loop from i₀ i = 1000 - i
+μ-loop page₀ bank₀ at i₀ page bank i = 1000 - i
+
+length-requires : tie.Need-length-requires Inv-loop μ-loop
+length-requires c κs = search needs
 
 loop-holds : tie.Need-loop-holds Inv-loop μ-loop
 loop-holds c = search needs
 
+add-at : tie.Need-add-at Inv-loop μ-loop
+add-at c = search needs
+
 at-requires : tie.Need-at-requires Inv-loop μ-loop
 at-requires c κs = search needs
 
-add-result : tie.Need-add-result Inv-loop μ-loop
-add-result c = search needs
-
 returns : tie.Need-returns Inv-loop μ-loop
 returns c = search needs
+
+byte-requires : tie.Need-byte-requires Inv-loop μ-loop
+byte-requires c κs = search needs
 
 add-i : tie.Need-add-i Inv-loop μ-loop
 add-i c = search needs
@@ -34,16 +40,18 @@ loop-again c = search needs
 returns-2 : tie.Need-returns-2 Inv-loop μ-loop
 returns-2 c = search needs
 
-pub after-spec : {M : Type 1} → statement M
-after-spec =
+pub word-spec : {M : Type 1} → statement M
+word-spec =
     tie.close
     (tie.spec
     Inv-loop
     μ-loop
+    length-requires
     loop-holds
+    add-at
     at-requires
-    add-result
     returns
+    byte-requires
     add-i
     loop-less
     loop-again

@@ -1,21 +1,21 @@
 // Takes what a call asks into the registers, field by field as its row of the table says.
-use super::input;
-use super::input::Window;
-use super::registers;
-use super::registers::ASKED;
-use super::registers::Bank;
-use super::registers::Bytes;
-use super::registers::FIELDS;
-use super::registers::GIVEN;
-use super::registers::MARKS;
-use super::registers::NACKS;
-use super::registers::Output;
-use super::registers::PLACES;
-use super::registers::RECEIVER_STORE;
-use super::registers::SENDER_STORE;
-use super::registers::Store;
 use super::table;
 use super::table::SIZE;
+use script::input;
+use script::input::Window;
+use script::registers;
+use script::registers::ASKED;
+use script::registers::Bank;
+use script::registers::Bytes;
+use script::registers::FIELDS;
+use script::registers::GIVEN;
+use script::registers::MARKS;
+use script::registers::NACKS;
+use script::registers::Output;
+use script::registers::PLACES;
+use script::registers::RECEIVER_STORE;
+use script::registers::SENDER_STORE;
+use script::registers::Store;
 
 // The bytes of a number by its digit.
 fn width(digit: u8) -> u8 {

@@ -1,8 +1,8 @@
 -- The measure is how many fields a row can still have.
 use Prim.Native.Nat.{_≤_, _-_}
 use borrow.Author.Needs.{needs}
-use Rattle.script.proofs.take.call.Statement.{statement}
-use Rattle.script.proofs.take.call.Tie as tie
+use Rattle.drive_format.proofs.take.call.Statement.{statement}
+use Rattle.drive_format.proofs.take.call.Tie as tie
 
 abbrev Inv-loop : tie.InvT-loop
 Inv-loop window₀ bank₀ given₀ out₀ received₀ sent₀ letter asked i₀ window bank given out received sent i =

@@ -1,8 +1,8 @@
 -- The measure is how many rows are left.
 use Prim.Native.Nat.{_≤_, _-_}
 use borrow.Author.Needs.{needs}
-use Rattle.script.proofs.tell.rows.Statement.{statement}
-use Rattle.script.proofs.tell.rows.Tie as tie
+use Rattle.drive_format.proofs.tell.rows.Statement.{statement}
+use Rattle.drive_format.proofs.tell.rows.Tie as tie
 
 abbrev Inv-loop : tie.InvT-loop
 Inv-loop page₀ bank₀ at rows width n place₀ i₀ page bank place i = i ≤ rows

@@ -1,19 +1,19 @@
 // Tells what a call answered, in one line, as its row of the table says: its word, its numbers, the state after it, and the checksum of what was lent.
-use super::output;
-use super::output::Page;
-use super::registers;
-use super::registers::ANSWERS;
-use super::registers::Bank;
-use super::registers::COUNT;
-use super::registers::MARKS;
-use super::registers::PLACES;
-use super::registers::RECEIVER;
-use super::registers::SENDER;
-use super::registers::SUM;
-use super::registers::TOLD;
-use super::registers::WORD;
 use super::table;
 use super::table::SIZE;
+use script::output;
+use script::output::Page;
+use script::registers;
+use script::registers::ANSWERS;
+use script::registers::Bank;
+use script::registers::COUNT;
+use script::registers::MARKS;
+use script::registers::PLACES;
+use script::registers::RECEIVER;
+use script::registers::SENDER;
+use script::registers::SUM;
+use script::registers::TOLD;
+use script::registers::WORD;
 
 // Whether the numbers from a place on are all 0, width of them.
 fn blank(bank: &Bank, at: usize, width: usize) -> bool {

@@ -1,7 +1,7 @@
 -- The measure is how many rows are left.
 use borrow.Author.Needs.{needs}
-use Rattle.script.proofs.tell.filled.Statement.{statement}
-use Rattle.script.proofs.tell.filled.Tie as tie
+use Rattle.drive_format.proofs.tell.filled.Statement.{statement}
+use Rattle.drive_format.proofs.tell.filled.Tie as tie
 
 abbrev Inv-loop : tie.InvT-loop
 Inv-loop bank at rows width n₀ i₀ place₀ n i place = Unit {0}

@@ -1,8 +1,8 @@
 -- The measure is how many items are left.
 use Prim.Native.Nat.{_≤_, _-_}
 use borrow.Author.Needs.{needs}
-use Rattle.script.proofs.take.list.Statement.{statement}
-use Rattle.script.proofs.take.list.Tie as tie
+use Rattle.drive_format.proofs.take.list.Statement.{statement}
+use Rattle.drive_format.proofs.take.list.Tie as tie
 
 abbrev Inv-loop : tie.InvT-loop
 Inv-loop window₀ bank₀ at kind most n k₀ window bank k = k ≤ n
