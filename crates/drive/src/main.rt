@@ -1,162 +1,93 @@
-// Reads a script of calls from standard input and answers each with a line: docs/DRIVE.md has the format.
-// A call is a letter, a module of its own and one line of `call`; the registers that it keeps are lent by `main`.
-mod input;
-mod output;
-mod read;
-mod receive;
-mod registers;
+// Reads a script of calls from standard input and answers each with a line: docs/DRIVE.md has the format, and the crate `drive_format` is that format.
+// A call is taken into the registers, made by the crate of its topic, and told from the registers.
 mod timing;
-mod write;
 
-use input::Marks;
-use input::Window;
-use output::Page;
-use registers::Bytes;
-use registers::Numbers;
-use registers::State;
-use registers::Store;
-use registers::Table;
+use drive_format::take;
+use drive_format::tell;
+use script::input;
+use script::input::Window;
+use script::output;
+use script::output::Page;
+use script::registers::Bank;
+use script::registers::Bytes;
+use script::registers::Output;
+use script::registers::Store;
 
-// One call, by its letter.
+// Makes the call of a letter.
 fn call(
-    window: &mut Window,
-    marks: &mut Marks,
-    numbers: &mut Numbers,
-    first: &mut Bytes,
-    second: &mut Bytes,
-    third: &mut Bytes,
-    out: &mut Bytes,
-    state: &mut State,
-    table: &mut Table,
-    store: &mut Store,
-    page: &mut Page,
-    used: &mut usize,
+    bank: &mut Bank,
+    given: &mut Bytes,
+    out: &mut Output,
+    received: &mut Store,
+    sent: &mut Store,
+    letter: u8,
 ) {
-    match input::byte(window, marks) {
-        b'r' => read::call(window, marks, first, page, used),
-        b'w' => write::call(
-            window,
-            marks,
-            numbers,
-            second,
-            third,
-            first,
-            out,
-            page,
-            used,
-        ),
-        b'x' => timing::sample(window, marks, page, used),
-        b'g' => timing::grown(window, marks, page, used),
-        b'f' => timing::fallen(window, marks, page, used),
-        b'S' => receive::start(window, marks, state, table, store, page, used),
-        b'a' => receive::accept(window, marks, state, table, store, first, page, used),
-        b't' => receive::take(window, marks, state, table, store, out, page, used),
-        b'k' => receive::acknowledge(window, marks, state, table, out, page, used),
-        _ => input::spoil(marks),
+    match letter {
+        b'r' | b'd' | b'w' => drive_packets::call(bank, given, out, letter),
+        b'x' | b'g' | b'f' => timing::call(bank, letter),
+        b'S' | b'R' | b'B' | b'a' | b't' | b'k' => {
+            drive_receiver::call(bank, given, out, received, letter)
+        }
+        _ => drive_sender::call(bank, given, out, sent, letter),
     }
 }
 
 // One call, or the word that the script is bad; whether to go on.
 fn step(
     window: &mut Window,
-    marks: &mut Marks,
-    numbers: &mut Numbers,
-    first: &mut Bytes,
-    second: &mut Bytes,
-    third: &mut Bytes,
-    out: &mut Bytes,
-    state: &mut State,
-    table: &mut Table,
-    store: &mut Store,
     page: &mut Page,
-    used: &mut usize,
+    bank: &mut Bank,
+    given: &mut Bytes,
+    out: &mut Output,
+    received: &mut Store,
+    sent: &mut Store,
 ) -> bool {
-    if input::ended(window, marks) {
+    if input::ended(window, bank) {
         return false;
     }
-    call(
-        window,
-        marks,
-        numbers,
-        first,
-        second,
-        third,
-        out,
-        state,
-        table,
-        store,
-        page,
-        used,
-    );
-    if input::good(marks) {
-        return true;
+    let letter = input::byte(window, bank);
+    take::call(window, bank, given, out, received, sent, letter);
+    if !input::good(bank) {
+        output::word(page, bank, b"bad script\n");
+        return false;
     }
-    output::word(page, used, b"bad script\n");
-    false
+    call(bank, given, out, received, sent, letter);
+    tell::call(page, bank);
+    true
 }
 
 // Nothing says that a script ends, so the turns are counted down, from a number that no run uses up.
 fn steps(
     window: &mut Window,
-    marks: &mut Marks,
-    numbers: &mut Numbers,
-    first: &mut Bytes,
-    second: &mut Bytes,
-    third: &mut Bytes,
-    out: &mut Bytes,
-    state: &mut State,
-    table: &mut Table,
-    store: &mut Store,
     page: &mut Page,
-    used: &mut usize,
+    bank: &mut Bank,
+    given: &mut Bytes,
+    out: &mut Output,
+    received: &mut Store,
+    sent: &mut Store,
 ) {
     let mut turns = u64::MAX;
-    while turns > 0
-        && step(
-            window,
-            marks,
-            numbers,
-            first,
-            second,
-            third,
-            out,
-            state,
-            table,
-            store,
-            page,
-            used,
-        )
-    {
+    while turns > 0 && step(window, page, bank, given, out, received, sent) {
         turns -= 1;
     }
 }
 
 fn main() {
     let mut window = [0u8; 65536];
-    let mut marks = [0usize; 3];
-    let mut numbers = [0u32; 300];
-    let mut first = [0u8; 70000];
-    let mut second = [0u8; 70000];
-    let mut third = [0u8; 70000];
-    let mut out = [0u8; 70000];
-    let mut state = [0u32; 4];
-    let mut table = [0u16; 512];
-    let mut store = [0u8; 930000];
     let mut page = [0u8; 65536];
-    let mut used: usize = 0;
+    let mut bank = [0u64; 1792];
+    let mut given = [0u8; 210000];
+    let mut out = [0u8; 70000];
+    let mut received = [0u8; 930000];
+    let mut sent = [0u8; 930000];
     steps(
         &mut window,
-        &mut marks,
-        &mut numbers,
-        &mut first,
-        &mut second,
-        &mut third,
-        &mut out,
-        &mut state,
-        &mut table,
-        &mut store,
         &mut page,
-        &mut used,
+        &mut bank,
+        &mut given,
+        &mut out,
+        &mut received,
+        &mut sent,
     );
-    output::flush(&mut page, &mut used);
+    output::flush(&mut page, &mut bank);
 }

@@ -4,10 +4,10 @@ use Rattle.drive.proofs.steps.Statement.{statement}
 use Rattle.drive.proofs.steps.Tie as tie
 
 abbrev Inv-loop : tie.InvT-loop
-Inv-loop window₀ marks₀ numbers₀ first₀ second₀ third₀ out₀ state₀ table₀ store₀ page₀ used₀ turns₀ window marks numbers first second third out state table store page used turns = Unit {0}
+Inv-loop window₀ page₀ bank₀ given₀ out₀ received₀ sent₀ turns₀ window page bank given out received sent turns = Unit {0}
 
 abbrev μ-loop : tie.MeasureT-loop
-μ-loop window₀ marks₀ numbers₀ first₀ second₀ third₀ out₀ state₀ table₀ store₀ page₀ used₀ turns₀ window marks numbers first second third out state table store page used turns = turns
+μ-loop window₀ page₀ bank₀ given₀ out₀ received₀ sent₀ turns₀ window page bank given out received sent turns = turns
 
 loop-holds : tie.Need-loop-holds Inv-loop μ-loop
 loop-holds c = search needs

@@ -1,0 +1,46 @@
+-- The measure is what is left of the table.
+use Prim.Native.Nat.{_-_}
+use borrow.Author.Needs.{needs}
+use Rattle.drive_format.proofs.table.row.Statement.{statement}
+use Rattle.drive_format.proofs.table.row.Tie as tie
+
+abbrev Inv-loop : tie.InvT-loop
+Inv-loop letter i₀ i = Unit {0}
+
+abbrev μ-loop : tie.MeasureT-loop
+μ-loop letter i₀ i = 1000 - i
+
+loop-holds : tie.Need-loop-holds Inv-loop μ-loop
+loop-holds c = search needs
+
+begins-requires : tie.Need-begins-requires Inv-loop μ-loop
+begins-requires c κs = search needs
+
+returns : tie.Need-returns Inv-loop μ-loop
+returns c = search needs
+
+add-i : tie.Need-add-i Inv-loop μ-loop
+add-i c = search needs
+
+loop-less : tie.Need-loop-less Inv-loop μ-loop
+loop-less c = search needs
+
+loop-again : tie.Need-loop-again Inv-loop μ-loop
+loop-again c = search needs
+
+returns-2 : tie.Need-returns-2 Inv-loop μ-loop
+returns-2 c = search needs
+
+pub row-spec : {M : Type 1} → statement M
+row-spec =
+    tie.close
+    (tie.spec
+    Inv-loop
+    μ-loop
+    loop-holds
+    begins-requires
+    returns
+    add-i
+    loop-less
+    loop-again
+    returns-2)

@@ -1,0 +1,76 @@
+-- The measure is how many fields a row can still have.
+use Prim.Native.Nat.{_≤_, _-_}
+use borrow.Author.Needs.{needs}
+use Rattle.drive_format.proofs.take.call.Statement.{statement}
+use Rattle.drive_format.proofs.take.call.Tie as tie
+
+abbrev Inv-loop : tie.InvT-loop
+Inv-loop window₀ bank₀ given₀ out₀ received₀ sent₀ letter asked i₀ window bank given out received sent i =
+    i ≤ 16
+
+abbrev μ-loop : tie.MeasureT-loop
+μ-loop window₀ bank₀ given₀ out₀ received₀ sent₀ letter asked i₀ window bank given out received sent i =
+    16 - i
+
+find-requires : tie.Need-find-requires Inv-loop μ-loop
+find-requires c κs = search needs
+
+spoil-requires : tie.Need-spoil-requires Inv-loop μ-loop
+spoil-requires c κs = search needs
+
+returns : tie.Need-returns Inv-loop μ-loop
+returns c = search needs
+
+put-requires : tie.Need-put-requires Inv-loop μ-loop
+put-requires c κs = search needs
+
+length-requires : tie.Need-length-requires Inv-loop μ-loop
+length-requires c κs = search needs
+
+loop-holds : tie.Need-loop-holds Inv-loop μ-loop
+loop-holds c = search needs
+
+add-at : tie.Need-add-at Inv-loop μ-loop
+add-at c = search needs
+
+at-requires : tie.Need-at-requires Inv-loop μ-loop
+at-requires c κs = search needs
+
+returns-2 : tie.Need-returns-2 Inv-loop μ-loop
+returns-2 c = search needs
+
+field-requires : tie.Need-field-requires Inv-loop μ-loop
+field-requires c κs = search needs
+
+add-i : tie.Need-add-i Inv-loop μ-loop
+add-i c = search needs
+
+loop-less : tie.Need-loop-less Inv-loop μ-loop
+loop-less c = search needs
+
+loop-again : tie.Need-loop-again Inv-loop μ-loop
+loop-again c = search needs
+
+returns-3 : tie.Need-returns-3 Inv-loop μ-loop
+returns-3 c = search needs
+
+pub call-spec : {M : Type 1} → statement M
+call-spec =
+    tie.close
+    (tie.spec
+    Inv-loop
+    μ-loop
+    find-requires
+    spoil-requires
+    returns
+    put-requires
+    length-requires
+    loop-holds
+    add-at
+    at-requires
+    returns-2
+    field-requires
+    add-i
+    loop-less
+    loop-again
+    returns-3)

@@ -1,0 +1,58 @@
+-- The measure is what is left of the table.
+use Prim.Native.Nat.{_≤_, _-_}
+use borrow.Author.Needs.{needs}
+use Rattle.drive_format.proofs.tell.word.Statement.{statement}
+use Rattle.drive_format.proofs.tell.word.Tie as tie
+
+abbrev Inv-loop : tie.InvT-loop
+Inv-loop page₀ bank₀ at i₀ page bank i = i ≤ 1000
+
+abbrev μ-loop : tie.MeasureT-loop
+μ-loop page₀ bank₀ at i₀ page bank i = 1000 - i
+
+length-requires : tie.Need-length-requires Inv-loop μ-loop
+length-requires c κs = search needs
+
+loop-holds : tie.Need-loop-holds Inv-loop μ-loop
+loop-holds c = search needs
+
+add-at : tie.Need-add-at Inv-loop μ-loop
+add-at c = search needs
+
+at-requires : tie.Need-at-requires Inv-loop μ-loop
+at-requires c κs = search needs
+
+returns : tie.Need-returns Inv-loop μ-loop
+returns c = search needs
+
+byte-requires : tie.Need-byte-requires Inv-loop μ-loop
+byte-requires c κs = search needs
+
+add-i : tie.Need-add-i Inv-loop μ-loop
+add-i c = search needs
+
+loop-less : tie.Need-loop-less Inv-loop μ-loop
+loop-less c = search needs
+
+loop-again : tie.Need-loop-again Inv-loop μ-loop
+loop-again c = search needs
+
+returns-2 : tie.Need-returns-2 Inv-loop μ-loop
+returns-2 c = search needs
+
+pub word-spec : {M : Type 1} → statement M
+word-spec =
+    tie.close
+    (tie.spec
+    Inv-loop
+    μ-loop
+    length-requires
+    loop-holds
+    add-at
+    at-requires
+    returns
+    byte-requires
+    add-i
+    loop-less
+    loop-again
+    returns-2)

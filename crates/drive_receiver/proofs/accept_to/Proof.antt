@@ -1,0 +1,39 @@
+-- The front of the register is as long as asked.
+use native.Mathlib.Omega.{arith}
+use lib.ListN.{length-take}
+use borrow.Author.Needs.{needs}
+use Rattle.drive_receiver.proofs.accept_to.Statement.{statement}
+use Rattle.drive_receiver.proofs.accept_to.Tie as tie
+
+length-requires : tie.Need-length-requires
+length-requires c κs = search needs
+
+returns : tie.Need-returns
+returns c = search needs
+
+slice-relend-prefix-accept : tie.Need-slice-relend-prefix-accept
+slice-relend-prefix-accept c = search needs
+
+slice-aggregate-accept : tie.Need-slice-aggregate-accept
+slice-aggregate-accept c = simp length-take (omega arith)
+
+accept-requires : tie.Need-accept-requires
+accept-requires c κs = search needs
+
+same-length : tie.Need-same-length
+same-length c = search needs
+
+returns-2 : tie.Need-returns-2
+returns-2 c = search needs
+
+pub accept-to-spec : {M : Type 1} → statement M
+accept-to-spec =
+    tie.close
+    (tie.spec
+    length-requires
+    returns
+    slice-relend-prefix-accept
+    slice-aggregate-accept
+    accept-requires
+    same-length
+    returns-2)

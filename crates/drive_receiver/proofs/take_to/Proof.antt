@@ -1,0 +1,39 @@
+-- The front of the register is as long as asked.
+use native.Mathlib.Omega.{arith}
+use lib.ListN.{length-take}
+use borrow.Author.Needs.{needs}
+use Rattle.drive_receiver.proofs.take_to.Statement.{statement}
+use Rattle.drive_receiver.proofs.take_to.Tie as tie
+
+length-requires : tie.Need-length-requires
+length-requires c κs = search needs
+
+returns : tie.Need-returns
+returns c = search needs
+
+slice-relend-prefix-take : tie.Need-slice-relend-prefix-take
+slice-relend-prefix-take c = search needs
+
+slice-aggregate-take : tie.Need-slice-aggregate-take
+slice-aggregate-take c = simp length-take (omega arith)
+
+take-requires : tie.Need-take-requires
+take-requires c κs = search needs
+
+same-length : tie.Need-same-length
+same-length c = search needs
+
+returns-2 : tie.Need-returns-2
+returns-2 c = search needs
+
+pub take-to-spec : {M : Type 1} → statement M
+take-to-spec =
+    tie.close
+    (tie.spec
+    length-requires
+    returns
+    slice-relend-prefix-take
+    slice-aggregate-take
+    take-requires
+    same-length
+    returns-2)

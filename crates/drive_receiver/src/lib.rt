@@ -1,0 +1,169 @@
+// What `drive` calls on a receiver: 'S' starts it, 'R' and 'B' set its state and its store, 'a' accepts, 't' takes, 'k' acknowledges.
+// The state and what a call asks stand in the registers, and its answer goes there.
+use ack::Acknowledged;
+use lines::part;
+use receiver::Answer;
+use receiver::Given;
+use receiver::Receiver;
+use script::registers;
+use script::registers::Bank;
+use script::registers::Bytes;
+use script::registers::COUNT;
+use script::registers::MARKS;
+use script::registers::Output;
+use script::registers::RECEIVER;
+use script::registers::RECEIVER_STORE;
+use script::registers::SUM;
+use script::registers::Store;
+use script::sum;
+use terms::SeqNo;
+use terms::StreamId;
+
+fn marks(bank: &Bank) -> [u16; 512] {
+    let mut marks = [0u16; 512];
+    let mut i = 0;
+    while i < 512 {
+        marks[i] = registers::word16(bank, MARKS + i);
+        i += 1;
+    }
+    marks
+}
+
+// The receiver of the registers. 'u' is given it too.
+pub fn state(bank: &Bank) -> Receiver {
+    let slot = registers::word32(bank, RECEIVER);
+    let next = SeqNo(registers::word32(bank, RECEIVER + 1));
+    let highest = SeqNo(registers::word32(bank, RECEIVER + 2));
+    let marks = marks(bank);
+    Receiver {
+        slot: slot,
+        next: next,
+        highest: highest,
+        marks: marks,
+    }
+}
+
+fn keep_mark(bank: &mut Bank, i: usize, mark: u16) {
+    registers::put(bank, MARKS + i % 512, mark as u64);
+}
+
+fn keep_marks(bank: &mut Bank, marks: &[u16; 512]) {
+    let mut i = 0;
+    while i < 512 {
+        keep_mark(bank, i, marks[i]);
+        i += 1;
+    }
+}
+
+fn keep(bank: &mut Bank, r: Receiver) {
+    registers::put(bank, RECEIVER, r.slot as u64);
+    registers::put(bank, RECEIVER + 1, r.next.0 as u64);
+    registers::put(bank, RECEIVER + 2, r.highest.0 as u64);
+    let marks = r.marks;
+    keep_marks(bank, &marks);
+}
+
+fn answer(bank: &mut Bank, answer: Answer) {
+    match answer {
+        Answer::Done => registers::answer(bank, 0),
+        Answer::Refused(r) => registers::answer(bank, r.number() as u64),
+    }
+}
+
+fn start(bank: &mut Bank, store: &[u8]) {
+    let s = SeqNo(registers::word32(bank, 0));
+    let slot = registers::word32(bank, 1);
+    let done = receiver::start(s, slot, store);
+    let after = done.state;
+    let said = done.answer;
+    keep(bank, after);
+    answer(bank, said);
+}
+
+// The state that the call gives stands in its first three fields, and its marks are in their place already.
+fn set(bank: &mut Bank) {
+    registers::copy(bank, 0, RECEIVER, 3);
+    bank[COUNT] = 0;
+}
+
+fn set_store(bank: &mut Bank, store: &[u8]) {
+    registers::answer(bank, store.len() as u64);
+    bank[SUM] = sum::checksum(store);
+}
+
+fn accept(bank: &mut Bank, payload: &[u8], store: &mut [u8]) {
+    let number = SeqNo(registers::word32(bank, 0));
+    let r = state(bank);
+    let done = receiver::accept(r, number, payload, store);
+    let after = done.state;
+    let said = done.answer;
+    keep(bank, after);
+    answer(bank, said);
+    bank[SUM] = sum::checksum(store);
+}
+
+fn given(bank: &mut Bank, answer: Given) {
+    match answer {
+        Given::Bytes(n) => registers::answer2(bank, 0, n as u64),
+        Given::Refused(r) => registers::answer2(bank, r.number() as u64, 0),
+    }
+}
+
+fn take(bank: &mut Bank, store: &[u8], out: &mut [u8]) {
+    let r = state(bank);
+    let done = receiver::take(r, store, out);
+    let after = done.state;
+    let said = done.answer;
+    keep(bank, after);
+    given(bank, said);
+    bank[SUM] = sum::checksum(out);
+}
+
+fn acknowledge(bank: &mut Bank, out: &mut [u8]) {
+    let send = StreamId(registers::word32(bank, 0));
+    let recv = StreamId(registers::word32(bank, 1));
+    let r = state(bank);
+    match ack::acknowledge(r, send, recv, out) {
+        Acknowledged::Written(n) => registers::answer2(bank, 0, n as u64),
+        Acknowledged::Refused(r) => registers::answer2(bank, r.number() as u64, 0),
+    }
+    bank[SUM] = sum::checksum(out);
+}
+
+// The calls with the front of a register as the store or the output.
+fn accept_to(bank: &mut Bank, payload: &[u8], store: &mut [u8]) {
+    let n = registers::length(bank, RECEIVER_STORE);
+    if n > store.len() {
+        return;
+    }
+    accept(bank, payload, &mut store[..n]);
+}
+
+fn take_to(bank: &mut Bank, store: &[u8], out: &mut [u8]) {
+    let room = registers::length(bank, 0);
+    if room > out.len() {
+        return;
+    }
+    take(bank, store, &mut out[..room]);
+}
+
+fn acknowledge_to(bank: &mut Bank, out: &mut [u8]) {
+    let room = registers::length(bank, 2);
+    if room > out.len() {
+        return;
+    }
+    acknowledge(bank, &mut out[..room]);
+}
+
+pub fn call(bank: &mut Bank, given: &Bytes, out: &mut Output, store: &mut Store, letter: u8) {
+    let n = registers::length(bank, 1);
+    let held = registers::length(bank, RECEIVER_STORE);
+    match letter {
+        b'S' => start(bank, part::front(store, held)),
+        b'R' => set(bank),
+        b'B' => set_store(bank, part::front(store, held)),
+        b'a' => accept_to(bank, part::front(given, n), store),
+        b't' => take_to(bank, part::front(store, held), out),
+        _ => acknowledge_to(bank, out),
+    }
+}

@@ -1,0 +1,62 @@
+-- The index stays within the table. The measure is how many places are left.
+use Prim.Native.Nat.{_≤_, _-_}
+use borrow.Author.Needs.{needs}
+use Rattle.drive_sender.proofs.state.column.Statement.{statement}
+use Rattle.drive_sender.proofs.state.column.Tie as tie
+
+abbrev Inv-loop : tie.InvT-loop
+Inv-loop bank field all₀ i₀ all i = i ≤ 192
+
+abbrev μ-loop : tie.MeasureT-loop
+μ-loop bank field all₀ i₀ all i = 192 - i
+
+loop-holds : tie.Need-loop-holds Inv-loop μ-loop
+loop-holds c = search needs
+
+mul-word32 : tie.Need-mul-word32 Inv-loop μ-loop
+mul-word32 c = search needs
+
+add-word32 : tie.Need-add-word32 Inv-loop μ-loop
+add-word32 c = search needs
+
+add-word32-2 : tie.Need-add-word32-2 Inv-loop μ-loop
+add-word32-2 c = search needs
+
+word32-requires : tie.Need-word32-requires Inv-loop μ-loop
+word32-requires c κs = search needs
+
+mul-all : tie.Need-mul-all Inv-loop μ-loop
+mul-all c = search needs
+
+array-write-all : tie.Need-array-write-all Inv-loop μ-loop
+array-write-all c = search needs
+
+add-i : tie.Need-add-i Inv-loop μ-loop
+add-i c = search needs
+
+loop-less : tie.Need-loop-less Inv-loop μ-loop
+loop-less c = search needs
+
+loop-again : tie.Need-loop-again Inv-loop μ-loop
+loop-again c = search needs
+
+returns : tie.Need-returns Inv-loop μ-loop
+returns c = search needs
+
+pub column-spec : {M : Type 1} → statement M
+column-spec =
+    tie.close
+    (tie.spec
+    Inv-loop
+    μ-loop
+    loop-holds
+    mul-word32
+    add-word32
+    add-word32-2
+    word32-requires
+    mul-all
+    array-write-all
+    add-i
+    loop-less
+    loop-again
+    returns)

@@ -1,0 +1,62 @@
+-- The index stays within the table. The measure is how many places are left.
+use Prim.Native.Nat.{_≤_, _-_}
+use borrow.Author.Needs.{needs}
+use Rattle.drive_sender.proofs.state.times.Statement.{statement}
+use Rattle.drive_sender.proofs.state.times.Tie as tie
+
+abbrev Inv-loop : tie.InvT-loop
+Inv-loop bank all₀ i₀ all i = i ≤ 192
+
+abbrev μ-loop : tie.MeasureT-loop
+μ-loop bank all₀ i₀ all i = 192 - i
+
+loop-holds : tie.Need-loop-holds Inv-loop μ-loop
+loop-holds c = search needs
+
+mul-value : tie.Need-mul-value Inv-loop μ-loop
+mul-value c = search needs
+
+add-value : tie.Need-add-value Inv-loop μ-loop
+add-value c = search needs
+
+add-value-2 : tie.Need-add-value-2 Inv-loop μ-loop
+add-value-2 c = search needs
+
+value-requires : tie.Need-value-requires Inv-loop μ-loop
+value-requires c κs = search needs
+
+mul-all : tie.Need-mul-all Inv-loop μ-loop
+mul-all c = search needs
+
+array-write-all : tie.Need-array-write-all Inv-loop μ-loop
+array-write-all c = search needs
+
+add-i : tie.Need-add-i Inv-loop μ-loop
+add-i c = search needs
+
+loop-less : tie.Need-loop-less Inv-loop μ-loop
+loop-less c = search needs
+
+loop-again : tie.Need-loop-again Inv-loop μ-loop
+loop-again c = search needs
+
+returns : tie.Need-returns Inv-loop μ-loop
+returns c = search needs
+
+pub times-spec : {M : Type 1} → statement M
+times-spec =
+    tie.close
+    (tie.spec
+    Inv-loop
+    μ-loop
+    loop-holds
+    mul-value
+    add-value
+    add-value-2
+    value-requires
+    mul-all
+    array-write-all
+    add-i
+    loop-less
+    loop-again
+    returns)

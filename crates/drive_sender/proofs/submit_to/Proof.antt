@@ -1,0 +1,39 @@
+-- The front of the register is as long as asked.
+use native.Mathlib.Omega.{arith}
+use lib.ListN.{length-take}
+use borrow.Author.Needs.{needs}
+use Rattle.drive_sender.proofs.submit_to.Statement.{statement}
+use Rattle.drive_sender.proofs.submit_to.Tie as tie
+
+length-requires : tie.Need-length-requires
+length-requires c κs = search needs
+
+returns : tie.Need-returns
+returns c = search needs
+
+slice-relend-prefix-submit : tie.Need-slice-relend-prefix-submit
+slice-relend-prefix-submit c = search needs
+
+slice-aggregate-submit : tie.Need-slice-aggregate-submit
+slice-aggregate-submit c = simp length-take (omega arith)
+
+submit-requires : tie.Need-submit-requires
+submit-requires c κs = search needs
+
+same-length : tie.Need-same-length
+same-length c = search needs
+
+returns-2 : tie.Need-returns-2
+returns-2 c = search needs
+
+pub submit-to-spec : {M : Type 1} → statement M
+submit-to-spec =
+    tie.close
+    (tie.spec
+    length-requires
+    returns
+    slice-relend-prefix-submit
+    slice-aggregate-submit
+    submit-requires
+    same-length
+    returns-2)
