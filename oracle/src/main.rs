@@ -2,8 +2,10 @@
 extern crate alloc;
 
 mod ack;
+mod calls;
 mod common;
 mod lamps;
+mod model;
 mod read;
 mod receive;
 mod samples;
@@ -23,7 +25,7 @@ mod packet;
 
 use common::{Answers, Case, Tally};
 use std::{
-    io::{stdout, BufWriter, Write},
+    io::{stdin, stdout, BufWriter, Read, Write},
     process::ExitCode,
 };
 
@@ -37,6 +39,7 @@ fn main() -> ExitCode {
             lamps::show();
             true
         }
+        ["model", "answer"] => answer_script().is_ok(),
         ["stream", "show"] => {
             show::show();
             true
@@ -61,9 +64,22 @@ fn main() -> ExitCode {
     }
 }
 
+const USAGE: &str = "usage: oracle read|write|receive|ack|timer gen|check SEED COUNT
+       oracle receive slips gen|check
+       oracle model answer
+       oracle stream show
+       oracle lamps";
+
 fn usage() -> ExitCode {
-    eprintln!("usage: oracle read|write|receive|timer|ack gen|check SEED COUNT\n       oracle receive slips gen|check\n       oracle stream show\n       oracle lamps");
+    eprintln!("{USAGE}");
     ExitCode::from(2)
+}
+
+/// The model in the place of our program.
+fn answer_script() -> std::io::Result<()> {
+    let mut script = vec![];
+    stdin().read_to_end(&mut script)?;
+    stdout().write_all(model::script::answers(&script).as_bytes())
 }
 
 fn run<C: Case>(topic: &str, action: &str, seed: u64, count: usize) -> bool {
