@@ -4,14 +4,17 @@ extern crate alloc;
 mod ack;
 mod calls;
 mod common;
+mod host;
 mod lamps;
 mod model;
 mod read;
 mod receive;
 mod samples;
+mod send;
 mod show;
 mod slips;
 mod stand_in;
+mod step;
 mod timer;
 mod write;
 // The given text looks for these at the root of its crate.
@@ -52,6 +55,7 @@ fn main() -> ExitCode {
                 "receive" => run::<receive::Sequence>(topic, action, seed, count),
                 "timer" => run::<timer::Case>(topic, action, seed, count),
                 "ack" => run::<ack::Acks>(topic, action, seed, count),
+                "sender" => run::<send::Run>(topic, action, seed, count),
                 _ => return usage(),
             }
         }
@@ -64,7 +68,7 @@ fn main() -> ExitCode {
     }
 }
 
-const USAGE: &str = "usage: oracle read|write|receive|ack|timer gen|check SEED COUNT
+const USAGE: &str = "usage: oracle read|write|receive|ack|timer|sender gen|check SEED COUNT
        oracle receive slips gen|check
        oracle model answer
        oracle stream show
