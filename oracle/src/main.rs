@@ -5,6 +5,7 @@ mod ack;
 mod calls;
 mod common;
 mod host;
+mod hostile;
 mod lamps;
 mod model;
 mod read;
@@ -56,6 +57,12 @@ fn main() -> ExitCode {
                 "timer" => run::<timer::Case>(topic, action, seed, count),
                 "ack" => run::<ack::Acks>(topic, action, seed, count),
                 "sender" => run::<send::Run>(topic, action, seed, count),
+                "model" if action == "gen" => run::<hostile::Run>(topic, action, seed, count),
+                "model" => {
+                    model::hand::check();
+                    model::seen::forget();
+                    run::<hostile::Run>(topic, action, seed, count) && model::seen::table()
+                }
                 _ => return usage(),
             }
         }
@@ -68,7 +75,7 @@ fn main() -> ExitCode {
     }
 }
 
-const USAGE: &str = "usage: oracle read|write|receive|ack|timer|sender gen|check SEED COUNT
+const USAGE: &str = "usage: oracle read|write|receive|ack|timer|sender|model gen|check SEED COUNT
        oracle receive slips gen|check
        oracle model answer
        oracle stream show
