@@ -55,13 +55,14 @@ impl Draft {
     /// Fields that fit their flags, but for a thing or two.
     pub fn write(&mut self) {
         let flags = self.random.word() as u16 & self.random.word() as u16;
+        let flags = if self.random.one_in(4) { flags | FROM | SIGNATURE } else { flags };
         let flags = if self.random.one_in(8) { flags | OFFLINE } else { flags & !OFFLINE };
         let nacks = match self.random.below(16) {
             0 => self.random.from_to(254, 258),
             1 => self.random.from_to(250, 300),
             _ => self.random.below(5),
         };
-        let given = |draft: &mut Self, bit: u16| flags & bit != 0 || draft.random.one_in(24);
+        let given = |draft: &mut Self, bit: u16| flags & bit != 0 || draft.random.one_in(16);
         let fields = Fields {
             send: self.random.word(),
             recv: self.random.word(),
@@ -76,7 +77,7 @@ impl Draft {
             signature: if given(self, SIGNATURE) { self.signature() } else { vec![] },
             payload: vec![],
         };
-        let payload = match self.random.below(60) {
+        let payload = match self.random.below(if flags & OFFLINE != 0 { 8 } else { 40 }) {
             0 => (65_537 - self.random.below(5)).saturating_sub(fields.packet().0.len()),
             1 => self.random.from_to(60_000, 70_000),
             _ => self.random.below(60),

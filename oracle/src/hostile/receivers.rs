@@ -29,10 +29,12 @@ pub fn valid(random: &mut Random) -> Receiver {
         0 => room,
         1 => random.below(room + 1),
         2 | 3 => 0,
+        // With the highest alone held, 254 to 257 are missing.
+        4 | 5 => random.from_to(255, 258).min(room),
         _ => random.from_to(1, 8).min(room),
     };
     let mut receiver = Receiver { slot, next, highest: (next - 1) + span as u32, marks: [0; 512] };
-    let often = random.below(5);
+    let often = if (255..=258).contains(&span) && random.one_in(2) { 0 } else { random.below(5) };
     for above in 0..span {
         if above + 1 == span || random.below(4) < often {
             hold(&mut receiver, random, above);

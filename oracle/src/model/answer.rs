@@ -5,7 +5,7 @@ use super::{
     receiver::{self, Receiver},
     seen,
     sender::{self, Place, Sender},
-    sending, timer,
+    sending, shapes, timer,
     write::write,
     Refusal,
 };
@@ -37,6 +37,15 @@ fn code<T>(result: &Result<T, Refusal>) -> u64 {
 impl World {
     pub fn answer(&mut self, call: &Call) -> String {
         self.look(call);
+        let shapes = shapes::of(self, call);
+        let line = self.line(call);
+        if line.split(' ').nth(1) == Some("0") {
+            shapes.into_iter().for_each(seen::shape);
+        }
+        line
+    }
+
+    fn line(&mut self, call: &Call) -> String {
         match call {
             Call::Read(packet) => read(packet),
             Call::IsDestination(bytes) => {

@@ -10,7 +10,7 @@
 //! | `sender.rs`, `sending.rs` | "Sender": the state and its rules; the calls |
 //! | `answer.rs`, `script.rs` | no part of it: the lines and scripts of docs/DRIVE.md |
 //! | `hand.rs` | "Numbers to check by hand" |
-//! | `seen.rs` | which refusals and which rules were met |
+//! | `seen.rs`, `shapes.rs` | which refusals, rules and kinds of outcome were met |
 //!
 //! Each call first lists its refusals in document 01's order, each with when it is given; the first that applies is the answer,
 //! and then nothing has changed.
@@ -23,6 +23,7 @@ pub mod script;
 pub mod seen;
 pub mod sender;
 pub mod sending;
+pub mod shapes;
 pub mod timer;
 pub mod write;
 
