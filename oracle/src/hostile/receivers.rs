@@ -30,7 +30,7 @@ pub fn valid(random: &mut Random) -> Receiver {
         1 => random.below(room + 1),
         2 | 3 => 0,
         // With the highest alone held, 254 to 257 are missing.
-        4 | 5 => random.from_to(255, 258).min(room),
+        4..=8 => random.from_to(255, 258).min(room),
         _ => random.from_to(1, 8).min(room),
     };
     let mut receiver = Receiver { slot, next, highest: (next - 1) + span as u32, marks: [0; 512] };
