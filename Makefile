@@ -1,7 +1,9 @@
 # Two commands for a newcomer: `make demo` and `make test`. Both need the Rattle toolchain (`rt`), `rustc` and `make`, and nothing else.
 SEED ?= 1
 
-.PHONY: demo test links compare
+SOAK_COUNT ?= 5000000
+
+.PHONY: demo test links compare soak
 
 # The story of the lamps: the same packets, given to our receiver and to the Rust's.
 demo:
@@ -20,7 +22,7 @@ test: links compare
 links:
 	@tools/links
 
-# Our program beside the Rust as given, on the same calls.
+# Our program beside the Rust as given, and beside the model of document 01, on the same calls.
 compare:
 	@oracle/build.sh
 	@tools/build drive
@@ -30,3 +32,11 @@ compare:
 	@oracle/compare.sh 'receive slips'
 	@oracle/compare.sh ack $(SEED) 20000
 	@oracle/compare.sh timer $(SEED) 1000260
+	@oracle/compare.sh sender $(SEED) 20000
+	@oracle/compare.sh model $(SEED) 50000
+
+# Longer: rounds of whole runs and of hostile calls with seeds of their own, until SOAK_COUNT calls were compared.
+soak:
+	@oracle/build.sh
+	@tools/build drive
+	@oracle/soak.sh $(SEED) $(SOAK_COUNT)
