@@ -1,6 +1,9 @@
 # Two commands for a newcomer: `make demo` and `make test`. Both need the Rattle toolchain (`rt`), `rustc` and `make`, and nothing else.
 SEED ?= 1
 
+SOAK_COUNT ?= 5000000
+
+.PHONY: demo test links compare soak
 .PHONY: demo test links compare host
 
 # The story of the lamps: the same packets, given to our receiver and to the Rust's.
@@ -20,7 +23,7 @@ test: links compare host
 links:
 	@tools/links
 
-# Our program beside the Rust as given, on the same calls.
+# Our program beside the Rust as given, and beside the model of document 01, on the same calls.
 compare:
 	@oracle/build.sh
 	@tools/build drive
@@ -30,6 +33,7 @@ compare:
 	@oracle/compare.sh 'receive slips'
 	@oracle/compare.sh ack $(SEED) 20000
 	@oracle/compare.sh timer $(SEED) 1000260
+<<<<<<< HEAD
 
 # Hosts in C over the static library: each prints the lines that our own program of its name prints, but for the last of `thousand`,
 # which tells of the calls by value.
@@ -38,3 +42,13 @@ host:
 	@diff crates/lamps/stdout target/host/lamps.out
 	@head -n 3 crates/thousand/stdout | diff - target/host/thousand.out
 	@echo 'host/lamps.c, host/thousand.c: the lines of crates/lamps and crates/thousand'
+=======
+	@oracle/compare.sh sender $(SEED) 20000
+	@oracle/compare.sh model $(SEED) 50000
+
+# Longer: rounds of whole runs and of hostile calls with seeds of their own, until SOAK_COUNT calls were compared.
+soak:
+	@oracle/build.sh
+	@tools/build drive
+	@oracle/soak.sh $(SEED) $(SOAK_COUNT)
+>>>>>>> 3afdca000d659b82efb13dfa29659e1307f8fe72

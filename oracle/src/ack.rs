@@ -1,13 +1,11 @@
-//! The plain ack that `poll` sends, for receivers that accepted any numbers of a span, none taken: inside document 01's
-//! domain, at most 255 missing, byte for byte; above it the slip that document 01 lists.
-//!
-//! Script: 'S' and 'a' as in receive.rs, then 'k' acknowledge: both stream ids (32 bits each), output length (32), the byte
-//! that fills it. Answer: `ack CODE LENGTH OUT_SUM`.
+//! The plain ack that `poll` sends, for receivers that accepted any numbers of a span, one byte each, none taken: inside document
+//! 01's domain, at most 255 missing, byte for byte; above it the slip that document 01 lists. Ours is set to that state.
 use crate::{
     active::Rig,
-    common::{checksum, Answer, Case, Random, Script, Verdict},
+    calls::{Buffer, Call},
+    common::{checksum, Answer, Case, Random, Verdict},
+    model::receiver::Receiver,
     packet::{Packet, PacketBuilder},
-    receive::Call,
     runtime::Bench,
 };
 
@@ -22,8 +20,7 @@ pub struct Acks {
     /// How far above s each accepted number is, ascending.
     accepted: Vec<u32>,
     ids: [u32; 2],
-    output: usize,
-    fill: u8,
+    output: Buffer,
 }
 
 impl Case for Acks {
@@ -35,27 +32,28 @@ impl Case for Acks {
         let limits: [&[u32]; 8] = [&[], &[1, 2, 5], &[2, 3], &[255], &[256], &[257], &[511], &[512]];
         if let Some(accepted) = limits.get(index) {
             let ids = [0x0102_0304, 0x0a0b_0c0d];
-            return Self { s: 0, accepted: accepted.to_vec(), ids, output: 1_044, fill: 0 };
+            return Self { s: 0, accepted: accepted.to_vec(), ids, output: Buffer::of(1_044, 0) };
         }
         let highest = random.from_to(0, 512) as u32;
         let dense = random.from_to(1, 12);
         let accepted = (1..=highest).filter(|number| *number == highest || random.below(12) >= dense).collect();
         let output = if random.one_in(8) { random.below(1_044) } else { random.from_to(1_044, 1_100) };
         let s = random.word().min(4_294_967_294 - 512);
-        Self { s, accepted, ids: [random.word(), random.word()], output, fill: random.byte() }
+        Self { s, accepted, ids: [random.word(), random.word()], output: random.buffer(output) }
     }
 
     fn script(&self) -> Vec<u8> {
-        let start = Call::Start { s: self.s, slot: 1, fill: 0 }.script();
-        let accepts = self.accepted.iter().flat_map(|above| {
-            Call::Accept { number: self.s + above, payload: vec![0] }.script()
-        });
-        let ack = Script::default().u8(b'k').u32(self.ids[0]).u32(self.ids[1]).u32(self.output as u32).u8(self.fill);
-        start.into_iter().chain(accepts).chain(ack.0).collect()
+        let mut receiver = Receiver { slot: 1, next: self.s + 1, highest: self.s, marks: [0; 512] };
+        for above in &self.accepted {
+            receiver.highest = self.s + above;
+            receiver.marks[receiver.highest as usize % 512] = 2;
+        }
+        let ack = Call::Acknowledge { ids: self.ids, output: self.output.clone() };
+        [Call::SetReceiver(receiver), ack].iter().flat_map(Call::script).collect()
     }
 
     fn answers(&self) -> usize {
-        self.accepted.len() + 2
+        2
     }
 
     fn compare(&self, ours: &[Answer]) -> Vec<Verdict> {
@@ -64,13 +62,11 @@ impl Case for Acks {
         for above in &self.accepted {
             rig.accept(self.s + above, &[0]).expect("inside the lookahead");
         }
-        if let Some(refused) = ours[..ours.len() - 1].iter().find(|answer| answer.numbers.first() != Some(&0)) {
-            return vec![Verdict::Unlisted(format!("refused before the ack: `{refused}`"))];
-        }
         let missing = rig.missing();
         let rust = rig.plain_ack();
-        let (packet, mut listed) = if missing.len() <= MOST { (rust, None) } else { (self.mended(&missing, &rust), Some(MISSING)) };
-        let mut output = vec![self.fill; self.output];
+        let (packet, mut listed) =
+            if missing.len() <= MOST { (rust, None) } else { (self.mended(&missing, &rust), Some(MISSING)) };
+        let mut output = self.output.bytes();
         let expected = if packet.len() > output.len() {
             listed = Some(OUTPUT);
             [7, 0, checksum(&output)]
@@ -78,7 +74,7 @@ impl Case for Acks {
             output[..packet.len()].copy_from_slice(&packet);
             [0, packet.len() as u64, checksum(&output)]
         };
-        vec![Verdict::of(&ours[ours.len() - 1], &Answer::new("ack", &expected), listed)]
+        vec![Verdict::of(&ours[1], &Answer::new("ack", &expected), listed)]
     }
 }
 

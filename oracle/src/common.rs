@@ -1,12 +1,31 @@
 //! What every topic shares: seeded numbers, scripts for our program, its answer lines, and the tally of a comparison.
+use crate::calls::Buffer;
 use std::{
     fmt::{Display, Write as _},
     io::{BufRead, Lines, StdinLock},
 };
 
-/// The checksum in which both sides speak of bytes.
+/// The checksum in which both sides speak of bytes: for each byte, sum × 1,000,003 + byte + 1, mod 4,294,967,291.
 pub fn checksum(bytes: &[u8]) -> u64 {
-    bytes.iter().fold(0, |sum, byte| (sum * 1_000_003 + u64::from(*byte) + 1) % 4_294_967_291)
+    const MODULUS: u64 = 4_294_967_291;
+    /// 1,000,003 to the powers 0 to 8. Eight bytes are summed at once, since stores are long; no sum leaves 64 bits.
+    const POWERS: [u64; 9] = {
+        let mut powers = [1; 9];
+        let mut k = 1;
+        while k < 9 {
+            powers[k] = powers[k - 1] * 1_000_003 % MODULUS;
+            k += 1;
+        }
+        powers
+    };
+    const { assert!(POWERS[8] < (1 << 32) - (1 << 11)) };
+    let eights = bytes.chunks_exact(8);
+    let rest = eights.remainder();
+    let sum = eights.fold(0, |sum, eight| {
+        let words: u64 = (0..8).map(|k| (u64::from(eight[k]) + 1) * POWERS[7 - k]).sum();
+        (sum * POWERS[8] + words) % MODULUS
+    });
+    rest.iter().fold(sum, |sum, byte| (sum * POWERS[1] + u64::from(*byte) + 1) % MODULUS)
 }
 
 /// splitmix64. Each case draws from numbers of its own, made of the seed and the case's index, so that a case stays the
@@ -35,11 +54,19 @@ impl Random {
     pub fn one_in(&mut self, count: usize) -> bool {
         self.below(count) == 0
     }
+    pub fn pick<T: Clone>(&mut self, of: &[T]) -> T {
+        of[self.below(of.len())].clone()
+    }
     pub fn byte(&mut self) -> u8 {
         self.next() as u8
     }
     pub fn bytes(&mut self, count: usize) -> Vec<u8> {
         (0..count).map(|_| self.byte()).collect()
+    }
+    /// A buffer of this length: mostly one byte throughout, sometimes with other bytes in front.
+    pub fn buffer(&mut self, length: usize) -> Buffer {
+        let front = if self.one_in(6) { self.below(length.min(40) + 1) } else { 0 };
+        Buffer { length, fill: self.byte(), front: self.bytes(front) }
     }
     /// A number of 32 bits: at an end of the range one time in eight, small one time in four, else any.
     pub fn word(&mut self) -> u32 {
@@ -68,10 +95,21 @@ impl Script {
         self.0.extend(number.to_be_bytes());
         self
     }
+    pub fn u64(mut self, number: u64) -> Self {
+        self.0.extend(number.to_be_bytes());
+        self
+    }
     pub fn bytes(mut self, bytes: &[u8]) -> Self {
         self.0.extend((bytes.len() as u32).to_be_bytes());
         self.0.extend(bytes);
         self
+    }
+    pub fn buffer(self, buffer: &Buffer) -> Self {
+        self.u32(buffer.length as u32).u8(buffer.fill).bytes(&buffer.front)
+    }
+    /// A count of 16 bits, then the numbers.
+    pub fn numbers(self, numbers: &[u32]) -> Self {
+        numbers.iter().fold(self.u16(numbers.len() as u16), |script, number| script.u32(*number))
     }
 }
 
@@ -89,7 +127,10 @@ impl Answer {
 
     fn parse(line: &str) -> Option<Self> {
         let mut words = line.split(' ');
-        Some(Self { word: words.next()?.into(), numbers: words.map(|word| word.parse().ok()).collect::<Option<_>>()? })
+        let word = words.next()?.into();
+        let answer = Self { word, numbers: words.map(|word| word.parse().ok()).collect::<Option<_>>()? };
+        // A number has no sign and no zero in front.
+        (answer.to_string() == line).then_some(answer)
     }
 }
 

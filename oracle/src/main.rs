@@ -2,14 +2,20 @@
 extern crate alloc;
 
 mod ack;
+mod calls;
 mod common;
+mod host;
+mod hostile;
 mod lamps;
+mod model;
 mod read;
 mod receive;
 mod samples;
+mod send;
 mod show;
 mod slips;
 mod stand_in;
+mod step;
 mod timer;
 mod write;
 // The given text looks for these at the root of its crate.
@@ -23,7 +29,7 @@ mod packet;
 
 use common::{Answers, Case, Tally};
 use std::{
-    io::{stdout, BufWriter, Write},
+    io::{stdin, stdout, BufWriter, Read, Write},
     process::ExitCode,
 };
 
@@ -37,6 +43,7 @@ fn main() -> ExitCode {
             lamps::show();
             true
         }
+        ["model", "answer"] => answer_script().is_ok(),
         ["stream", "show"] => {
             show::show();
             true
@@ -49,6 +56,13 @@ fn main() -> ExitCode {
                 "receive" => run::<receive::Sequence>(topic, action, seed, count),
                 "timer" => run::<timer::Case>(topic, action, seed, count),
                 "ack" => run::<ack::Acks>(topic, action, seed, count),
+                "sender" => run::<send::Run>(topic, action, seed, count),
+                "model" if action == "gen" => run::<hostile::Run>(topic, action, seed, count),
+                "model" => {
+                    model::hand::check();
+                    model::seen::forget();
+                    run::<hostile::Run>(topic, action, seed, count) && model::seen::table()
+                }
                 _ => return usage(),
             }
         }
@@ -61,9 +75,22 @@ fn main() -> ExitCode {
     }
 }
 
+const USAGE: &str = "usage: oracle read|write|receive|ack|timer|sender|model gen|check SEED COUNT
+       oracle receive slips gen|check
+       oracle model answer
+       oracle stream show
+       oracle lamps";
+
 fn usage() -> ExitCode {
-    eprintln!("usage: oracle read|write|receive|timer|ack gen|check SEED COUNT\n       oracle receive slips gen|check\n       oracle stream show\n       oracle lamps");
+    eprintln!("{USAGE}");
     ExitCode::from(2)
+}
+
+/// The model in the place of our program.
+fn answer_script() -> std::io::Result<()> {
+    let mut script = vec![];
+    stdin().read_to_end(&mut script)?;
+    stdout().write_all(model::script::answers(&script).as_bytes())
 }
 
 fn run<C: Case>(topic: &str, action: &str, seed: u64, count: usize) -> bool {

@@ -46,7 +46,7 @@ impl common::Case for Case {
     }
 }
 
-fn random(random: &mut Random) -> Vec<u8> {
+pub fn random(random: &mut Random) -> Vec<u8> {
     match random.below(8) {
         0 => noise(random),
         1 => framed_noise(random),

@@ -1,39 +1,17 @@
 //! `InboundContext::handle_packet` and `pop_message`, through whole sequences of calls inside document 01's domain: no
 //! repeats, nonempty payloads, at most 255 missing, a span below 512 from the next number to take.
 //!
-//! Script: 'S' start after s (32 bits), slot size, store length (32), the byte that fills it; 'a' accept: number (32),
-//! payload bytes; 't' take: output length (32), the byte that fills it. Answers: `start CODE NEXT HIGHEST`, `accept CODE
-//! NEXT HIGHEST MISSING STORE_SUM`, `take CODE LENGTH NEXT HIGHEST MISSING OUT_SUM`. The Rust has no store, so STORE_SUM is
-//! not compared.
+//! The Rust has no store, so the sum of ours is not compared.
 use crate::{
     active::Inbound,
-    common::{checksum, Answer, Case, Random, Script, Verdict},
+    calls::{Buffer, Call},
+    common::{checksum, Answer, Case, Random, Verdict},
 };
 use std::collections::BTreeMap;
 
 const OUTPUT: &str = "output too short";
 /// The last number that can be used.
 const LAST: u64 = 4_294_967_294;
-
-pub enum Call {
-    Start { s: u32, slot: usize, fill: u8 },
-    Accept { number: u32, payload: Vec<u8> },
-    Take { output: usize, fill: u8 },
-}
-
-impl Call {
-    pub fn script(&self) -> Vec<u8> {
-        let script = Script::default();
-        match self {
-            Self::Start { s, slot, fill } => {
-                script.u8(b'S').u32(*s).u32(*slot as u32).u32(512 * *slot as u32).u8(*fill)
-            }
-            Self::Accept { number, payload } => script.u8(b'a').u32(*number).bytes(payload),
-            Self::Take { output, fill } => script.u8(b't').u32(*output as u32).u8(*fill),
-        }
-        .0
-    }
-}
 
 pub struct Sequence(Vec<Call>);
 
@@ -53,13 +31,15 @@ impl Case for Sequence {
     }
 
     fn compare(&self, ours: &[Answer]) -> Vec<Verdict> {
-        let mut rust = Rust { inbound: Inbound::start(0), next: 1 };
+        let mut rust = Rust { inbound: Inbound::start(0), slot: 1, next: 1 };
         let mut verdicts = vec![];
         for (at, (call, ours)) in self.0.iter().zip(ours).enumerate() {
             let (expected, listed) = rust.answer(call);
             let same = ours.word == expected.word
                 && match call {
-                    Call::Accept { .. } => ours.numbers.len() == 5 && ours.numbers[..4] == expected.numbers[..],
+                    Call::Accept { .. } => {
+                        ours.numbers.split_last().is_some_and(|(_, shown)| shown == expected.numbers)
+                    }
                     _ => ours.numbers == expected.numbers,
                 };
             verdicts.push(match (same, listed) {
@@ -79,15 +59,16 @@ impl Case for Sequence {
 /// The Rust's receiver, with the next number to take, which it does not know: each nonempty payload is one number.
 struct Rust {
     inbound: Inbound,
+    slot: u32,
     next: u64,
 }
 
 impl Rust {
     fn answer(&mut self, call: &Call) -> (Answer, Option<&'static str>) {
         match call {
-            Call::Start { s, .. } => {
-                *self = Self { inbound: Inbound::start(*s), next: u64::from(*s) + 1 };
-                (Answer::new("start", &[0, self.next, u64::from(self.inbound.highest())]), None)
+            Call::Start { s, slot, .. } => {
+                *self = Self { inbound: Inbound::start(*s), slot: *slot, next: u64::from(*s) + 1 };
+                (Answer::new("start", &[&[0], &self.state()[..]].concat()), None)
             }
             Call::Accept { number, payload } => {
                 let code = match self.inbound.accept(*number, payload) {
@@ -96,8 +77,8 @@ impl Rust {
                 };
                 (Answer::new("accept", &[&[code], &self.state()[..]].concat()), None)
             }
-            Call::Take { output, fill } => {
-                let mut output = vec![*fill; *output];
+            Call::Take(output) => {
+                let mut output = output.bytes();
                 // The Rust hands out a buffer of its own, so an output that is too short is ours alone: the payload stays.
                 let (code, length, listed) = match self.inbound.next() {
                     None => (17, 0, None),
@@ -112,11 +93,19 @@ impl Rust {
                 let numbers = [&[code, length], &self.state()[..], &[checksum(&output)]].concat();
                 (Answer::new("take", &numbers), listed)
             }
+            _ => unreachable!("no call of a sequence"),
         }
     }
 
-    fn state(&self) -> [u64; 3] {
-        [self.next, self.inbound.highest().into(), self.inbound.missing() as u64]
+    /// The state as ours shows it, the held payloads by slot. All that the Rust misses must be free there.
+    fn state(&self) -> Vec<u64> {
+        let held = self.inbound.held(self.next);
+        assert_eq!(self.next + (held.len() + self.inbound.missing()) as u64, u64::from(self.inbound.highest()) + 1);
+        let mut marks: Vec<[u64; 2]> =
+            held.into_iter().map(|(number, length)| [number % 512, length as u64 + 1]).collect();
+        marks.sort();
+        let head = [self.slot.into(), self.next, self.inbound.highest().into(), marks.len() as u64];
+        head.into_iter().chain(marks.into_iter().flatten()).collect()
     }
 }
 
@@ -144,7 +133,7 @@ impl Draft {
             1..=9 => random.from_to(1, 40),
             _ => random.from_to(1, 3),
         };
-        let start = Call::Start { s: s as u32, slot, fill: random.byte() };
+        let start = Call::Start { s: s as u32, slot: slot as u32, store: Buffer::of(512 * slot, random.byte()) };
         let mut draft = Self { calls: vec![start], slot, next: s + 1, highest: s, held: BTreeMap::new() };
         let calls = if random.one_in(100) { random.from_to(300, 900) } else { random.from_to(1, 40) };
         // Some sequences are mostly in order, some mostly gaps, some seldom taken from.
@@ -207,7 +196,7 @@ impl Draft {
             1..=3 => needed,
             _ => needed + random.below(4),
         };
-        self.calls.push(Call::Take { output, fill: random.byte() });
+        self.calls.push(Call::Take(random.buffer(output)));
         if held.is_some_and(|length| length <= output) {
             self.held.remove(&self.next);
             self.next += 1;

@@ -1,9 +1,9 @@
 //! Where the Rust's receiver goes wrong, or ours refuses what it takes: each with its smallest input and both sides' answers,
-//! so that the test fails if either changes. The format is that of `receive`.
+//! so that the test fails if either changes.
 use crate::{
     active::Inbound,
+    calls::{Buffer, Call},
     common::{checksum, Answer, Answers},
-    receive::Call,
 };
 
 enum Step {
@@ -95,9 +95,9 @@ impl Slip {
     fn calls(&self) -> Vec<Call> {
         let steps = self.steps.iter().map(|(step, ..)| match step {
             Accept(number, payload) => Call::Accept { number: *number, payload: payload.as_bytes().to_vec() },
-            Take => Call::Take { output: 1, fill: FILL },
+            Take => Call::Take(Buffer::of(1, FILL)),
         });
-        [Call::Start { s: self.s, slot: 1, fill: 0 }].into_iter().chain(steps).collect()
+        [Call::Start { s: self.s, slot: 1, store: Buffer::of(512, 0) }].into_iter().chain(steps).collect()
     }
 }
 
@@ -111,7 +111,7 @@ pub fn check() -> bool {
     let mut changed = 0;
     for slip in &SLIPS {
         let mut rust = Inbound::start(slip.s);
-        let start = Answer::new("start", &[0, u64::from(slip.s) + 1, slip.s.into()]);
+        let start = Answer::new("start", &[0, 1, u64::from(slip.s) + 1, slip.s.into(), 0]);
         let started = answers.next() == Some(start);
         println!("slip: {} (start after {}{})", slip.name, slip.s, if started { "" } else { ": CHANGED" });
         changed += usize::from(!started);
@@ -151,9 +151,12 @@ fn rust_says(rust: &mut Inbound, step: &Step) -> String {
 fn ours_says(answer: Option<Answer>) -> String {
     let Some(answer) = answer else { return "no answer".into() };
     match (answer.word.as_str(), &answer.numbers[..]) {
-        ("accept", [0, next, highest, missing, _]) => format!("next {next}, highest {highest}, missing {missing}"),
-        ("take", [0, 0, _, _, _, sum]) if *sum == checksum(&[FILL]) => "gives \"\"".into(),
-        ("take", [0, 1, _, _, _, sum]) => match (b'A'..=b'D').find(|letter| *sum == checksum(&[*letter])) {
+        // The state shows how many numbers are held; the others up to the highest are missing.
+        ("accept", [0, 1, next, highest, held, ..]) => {
+            format!("next {next}, highest {highest}, missing {}", highest + 1 - next - held)
+        }
+        ("take", [0, 0, .., sum]) if *sum == checksum(&[FILL]) => "gives \"\"".into(),
+        ("take", [0, 1, .., sum]) => match (b'A'..=b'D').find(|letter| *sum == checksum(&[*letter])) {
             Some(letter) => format!("gives {:?}", char::from(letter).to_string()),
             None => format!("`{answer}`"),
         },

@@ -3,15 +3,15 @@
 //! Script: 'x', 0 before the first sample or 1 (8 bits), RTT, deviation, sample (32 each), answered `sample RTT DEVIATION RTO`;
 //! 'g' window (32), answered `window N` after an ack; 'f' window, the same after a resend.
 use crate::{
-    active::{sample, Rig},
+    active::{sample, Rig, Timing},
     common::{self, Answer, Random, Script, Verdict},
     runtime::Bench,
 };
 
-const LOW: &str = "RTO held to 1,000";
-const HIGH: &str = "RTO held to 60,000";
-const FIRST: &str = "first RTO";
-const ROUNDED: &str = "deviation rounded before it is multiplied";
+pub const LOW: &str = "RTO held to 1,000";
+pub const HIGH: &str = "RTO held to 60,000";
+pub const FIRST: &str = "first RTO";
+pub const ROUNDED: &str = "deviation rounded before it is multiplied";
 
 #[derive(Clone, Copy)]
 pub enum Case {
@@ -79,15 +79,21 @@ fn any(random: &mut Random) -> Case {
     Case::Sample { before: (!random.one_in(8)).then_some((rtt, deviation)), sample }
 }
 
-/// RTT and deviation are the Rust's. The RTO is document 01's over them; where the Rust has another, the reason is named.
+/// RTT and deviation are the Rust's. The RTO is document 01's over them.
 fn sampled(before: Option<(u32, u32)>, taken: u32) -> (Answer, Option<&'static str>) {
     let rust = sample(before, taken);
+    let (ours, listed) = rto(&rust, before.is_none());
+    (Answer::new("sample", &[rust.rtt, rust.deviation, ours]), listed)
+}
+
+/// Document 01's RTO over the Rust's RTT and deviation after a sample; where the Rust has another, the reason is named.
+pub fn rto(rust: &Timing, first: bool) -> (u64, Option<&'static str>) {
     let held = |rto: u64| rto.clamp(1_000, 60_000);
     let ours = held(rust.rtt + 4 * rust.deviation);
     let listed = match rust.rto {
         rto if rto == ours => None,
         rto if held(rto) == ours => Some(if rto < 1_000 { LOW } else { HIGH }),
-        _ if before.is_none() => Some(FIRST),
+        _ if first => Some(FIRST),
         _ => Some(ROUNDED),
     };
     if listed == Some(FIRST) {
@@ -96,7 +102,7 @@ fn sampled(before: Option<(u32, u32)>, taken: u32) -> (Answer, Option<&'static s
     if listed == Some(ROUNDED) {
         assert!((1..4).contains(&(rust.rto - rust.rtt - 4 * rust.deviation)), "less than one whole deviation");
     }
-    (Answer::new("sample", &[rust.rtt, rust.deviation, ours]), listed)
+    (ours, listed)
 }
 
 /// A stream with this window and one packet in flight.

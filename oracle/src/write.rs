@@ -1,11 +1,9 @@
 //! `PacketBuilder::build` and `build_and_sign`, with the signer's stand-in.
-//!
-//! Script: 'w', send and receive id, sequence number, ack-through (32 bits each), NACK count (16) and NACKs, resend delay
-//! (8), flags, delay (16), destination bytes, maximum size (16), signature bytes, payload bytes, the output's length (32)
-//! and the byte that fills it before the call. Answer: `write CODE LENGTH SIG_AT SUM`, the sum over the whole output.
 use crate::{
-    common::{self, checksum, Answer, Random, Script, Verdict},
+    calls::{Buffer, Call},
+    common::{self, checksum, Answer, Random, Verdict},
     crypto::SigningPrivateKey,
+    model::write::Fields,
     packet::PacketBuilder,
     primitives::{Destination, DestinationId},
     samples,
@@ -27,20 +25,8 @@ const BITS: u16 = !(1 << 11);
 
 #[derive(Clone, Default)]
 pub struct Case {
-    send_stream_id: u32,
-    recv_stream_id: u32,
-    seq_nro: u32,
-    ack_through: u32,
-    nacks: Vec<u32>,
-    resend_delay: u8,
-    flags: u16,
-    delay: u16,
-    destination: Vec<u8>,
-    max_size: u16,
-    signature: Vec<u8>,
-    payload: Vec<u8>,
-    output: usize,
-    fill: u8,
+    fields: Fields,
+    output: Buffer,
 }
 
 impl common::Case for Case {
@@ -55,34 +41,14 @@ impl common::Case for Case {
     }
 
     fn script(&self) -> Vec<u8> {
-        let mut script = Script::default()
-            .u8(b'w')
-            .u32(self.send_stream_id)
-            .u32(self.recv_stream_id)
-            .u32(self.seq_nro)
-            .u32(self.ack_through)
-            .u16(self.nacks.len() as u16);
-        for nack in &self.nacks {
-            script = script.u32(*nack);
-        }
-        script
-            .u8(self.resend_delay)
-            .u16(self.flags)
-            .u16(self.delay)
-            .bytes(&self.destination)
-            .u16(self.max_size)
-            .bytes(&self.signature)
-            .bytes(&self.payload)
-            .u32(self.output as u32)
-            .u8(self.fill)
-            .0
+        Call::Write { fields: self.fields.clone(), output: self.output.clone() }.script()
     }
 
     fn compare(&self, ours: &[Answer]) -> Vec<Verdict> {
-        let rust = self.built(&self.signature);
-        let mut output = vec![self.fill; self.output];
+        let rust = self.built(&self.fields.signature);
+        let mut output = self.output.bytes();
         // The Rust makes its own output and cuts its counts to their width; where it does, ours refuses and writes nothing.
-        let refusal = if self.nacks.len() > 255 {
+        let refusal = if self.fields.nacks.len() > 255 {
             Some((8, NACKS))
         } else if rust.len() > 65_535 {
             Some((2, LONG))
@@ -105,20 +71,22 @@ impl common::Case for Case {
 
 /// The smallest inputs of the listed differences, each beside the call that just passes.
 fn limits() -> Vec<Case> {
-    let short = |missing: usize| fitting(Case::default(), missing);
-    let nacks = |count: usize| fitting(Case { nacks: vec![0; count], ..Case::default() }, 0);
-    let payload = |count: usize| fitting(Case { payload: vec![0; count], ..Case::default() }, 0);
+    let short = |missing: usize| fitting(Fields::default(), missing);
+    let nacks = |count: usize| fitting(Fields { nacks: vec![0; count], ..Fields::default() }, 0);
+    let payload = |count: usize| fitting(Fields { payload: vec![0; count], ..Fields::default() }, 0);
     // The option length has 16 bits, which the Rust cuts: a destination with the longest certificate overruns them.
     let mut longest = vec![0; 384];
     longest.extend([5, 255, 255, 0, 7]);
     longest.resize(387 + 65_535, 0);
-    let options = fitting(Case { flags: FROM, destination: longest, ..Case::default() }, 0);
+    let options = fitting(Fields { flags: FROM, destination: longest, ..Fields::default() }, 0);
     vec![short(0), short(1), short(22), nacks(255), nacks(256), nacks(257), payload(65_513), payload(65_514), options]
 }
 
 /// With an output that is `missing` bytes too short.
-fn fitting(case: Case, missing: usize) -> Case {
-    Case { output: case.length() - missing, ..case }
+fn fitting(fields: Fields, missing: usize) -> Case {
+    let mut case = Case { fields, output: Buffer::default() };
+    case.output.length = case.length() - missing;
+    case
 }
 
 fn any(random: &mut Random) -> Case {
@@ -129,17 +97,17 @@ fn any(random: &mut Random) -> Case {
         4..=8 => random.below(256),
         _ => random.below(9),
     };
-    let mut case = Case {
-        send_stream_id: random.word(),
-        recv_stream_id: random.word(),
-        seq_nro: random.word(),
-        ack_through: random.word(),
+    let fields = Fields {
+        send: random.word(),
+        recv: random.word(),
+        seq: random.word(),
+        ack: random.word(),
         nacks: (0..nacks).map(|_| random.word()).collect(),
-        resend_delay: random.byte(),
+        resend: random.byte(),
         flags,
         delay: if flags & DELAY != 0 { random.word() as u16 } else { 0 },
         destination: if flags & FROM != 0 { samples::destination(random) } else { vec![] },
-        max_size: if flags & MAX_SIZE != 0 { random.word() as u16 } else { 0 },
+        max: if flags & MAX_SIZE != 0 { random.word() as u16 } else { 0 },
         signature: if flags & SIGNATURE == 0 {
             vec![]
         } else if random.one_in(2) {
@@ -148,9 +116,8 @@ fn any(random: &mut Random) -> Case {
             random.bytes(64)
         },
         payload: vec![],
-        output: 0,
-        fill: random.byte(),
     };
+    let mut case = Case { fields, output: Buffer::default() };
     let payload = match random.below(400) {
         // Around the longest packet that can be written.
         0 => (65_535 + 2 - random.below(5)).saturating_sub(case.length()),
@@ -158,43 +125,46 @@ fn any(random: &mut Random) -> Case {
         10..=99 => 0,
         _ => random.below(60),
     };
-    case.payload = random.bytes(payload);
-    case.output = match random.below(20) {
+    case.fields.payload = random.bytes(payload);
+    let output = match random.below(20) {
         0 => random.below(case.length()),
         1 => case.length() - 1,
         2..=5 => case.length() + random.below(100),
         6 => case.length() + 1,
         _ => case.length(),
     };
+    case.output = random.buffer(output);
     case
 }
 
 impl Case {
     fn has(&self, bit: u16) -> bool {
-        self.flags & bit != 0
+        self.fields.flags & bit != 0
     }
 
     fn length(&self) -> usize {
+        let fields = &self.fields;
         let numbers = 2 * usize::from(self.has(DELAY)) + 2 * usize::from(self.has(MAX_SIZE));
-        22 + 4 * self.nacks.len() + numbers + self.destination.len() + self.signature.len() + self.payload.len()
+        let parts = fields.destination.len() + fields.signature.len() + fields.payload.len();
+        22 + 4 * fields.nacks.len() + numbers + parts
     }
 
     /// The packet as the Rust builds it, signed with `signature` if that flag is set.
     fn built(&self, signature: &[u8]) -> Vec<u8> {
-        let mut builder = PacketBuilder::new(self.recv_stream_id)
-            .with_send_stream_id(self.send_stream_id)
-            .with_seq_nro(self.seq_nro)
-            .with_ack_through(self.ack_through)
-            .with_resend_delay(self.resend_delay)
-            .with_flag_bits(self.flags & OTHER_BITS);
+        let mut builder = PacketBuilder::new(self.fields.recv)
+            .with_send_stream_id(self.fields.send)
+            .with_seq_nro(self.fields.seq)
+            .with_ack_through(self.fields.ack)
+            .with_resend_delay(self.fields.resend)
+            .with_flag_bits(self.fields.flags & OTHER_BITS);
         // Eight NACKs are also how the Rust carries a destination's hash; no NACKs and no payload have two spellings.
-        builder = match self.nacks.len() {
-            0 if self.fill % 2 == 0 => builder,
-            8 if self.fill % 2 == 0 => builder.with_replay_protection(&self.nacks_as_id()),
-            _ => builder.with_nacks(self.nacks.clone()),
+        builder = match self.fields.nacks.len() {
+            0 if self.output.fill % 2 == 0 => builder,
+            8 if self.output.fill % 2 == 0 => builder.with_replay_protection(&self.nacks_as_id()),
+            _ => builder.with_nacks(self.fields.nacks.clone()),
         };
-        if !self.payload.is_empty() || self.fill % 4 < 2 {
-            builder = builder.with_payload(&self.payload);
+        if !self.fields.payload.is_empty() || self.output.fill % 4 < 2 {
+            builder = builder.with_payload(&self.fields.payload);
         }
         if self.has(1 << 0) {
             builder = builder.with_synchronize();
@@ -212,13 +182,13 @@ impl Case {
             builder = builder.with_no_ack();
         }
         if self.has(DELAY) {
-            builder = builder.with_delay_requested(self.delay);
+            builder = builder.with_delay_requested(self.fields.delay);
         }
         if self.has(FROM) {
-            builder = builder.with_from_included(&Destination::new(&self.destination));
+            builder = builder.with_from_included(&Destination::new(&self.fields.destination));
         }
         if self.has(MAX_SIZE) {
-            builder = builder.with_max_packet_size(self.max_size);
+            builder = builder.with_max_packet_size(self.fields.max);
         }
         match self.has(SIGNATURE) {
             true => builder.with_signature().build_and_sign(&SigningPrivateKey(signature.to_vec())).to_vec(),
@@ -227,7 +197,7 @@ impl Case {
     }
 
     fn nacks_as_id(&self) -> DestinationId {
-        let bytes: Vec<u8> = self.nacks.iter().flat_map(|nack| nack.to_be_bytes()).collect();
+        let bytes: Vec<u8> = self.fields.nacks.iter().flat_map(|nack| nack.to_be_bytes()).collect();
         DestinationId(bytes.try_into().expect("eight NACKs"))
     }
 

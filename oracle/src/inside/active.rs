@@ -28,6 +28,11 @@ impl Inbound {
     pub fn first_missing(&self) -> Option<u32> {
         self.0.missing.first().copied()
     }
+    /// Number and length of each payload that is not handed out, `next` being the number of the first that is ready.
+    pub fn held(&self, next: u64) -> Vec<(u64, usize)> {
+        let ready = (next..).zip(self.0.ready.iter().map(Vec::len));
+        ready.chain(self.0.pending.iter().map(|(number, payload)| ((*number).into(), payload.len()))).collect()
+    }
     /// How many payloads wait behind a gap.
     pub fn kept(&self) -> usize {
         self.0.pending.len()
@@ -156,6 +161,19 @@ impl Rig {
     pub fn delivered(&self) -> &[Vec<u8>] {
         &self.stream.stream.delivered
     }
+    /// How many messages of the client are not read yet.
+    pub fn unread(&self) -> usize {
+        self.stream.stream.written.len()
+    }
+    /// The highest number that was accepted.
+    pub fn highest(&self) -> u32 {
+        self.stream.inbound_context.seq_nro
+    }
+    /// The bytes of a packet that waits or is in flight.
+    pub fn packet(&self, number: u32) -> Option<&[u8]> {
+        let stored = self.stream.pending.get(&number).or(self.stream.unacked.get(&number));
+        stored.map(|packet| &packet.packet[..])
+    }
     /// In flight, ascending: number and send time.
     pub fn unacked(&self) -> Vec<(u32, u64)> {
         self.stream.unacked.iter().map(|(number, packet)| (*number, packet.sent.0)).collect()
@@ -177,6 +195,10 @@ impl Rig {
     /// When the plain ack is due.
     pub fn ack_timer(&self) -> Option<u64> {
         self.stream.inbound_context.ack_timer.as_ref().map(|alarm| alarm.0)
+    }
+    /// Whether RTT and RTO come from samples.
+    pub fn sampled(&self) -> bool {
+        core::matches!(self.stream.rtt, Rtt::Sampled(_))
     }
     /// 8,000 and 9,000 stand for RTT and RTO before the first sample.
     pub fn timing(&self) -> Timing {

@@ -1,0 +1,131 @@
+//! What a run met: how often each call gave each answer, which refusals applied together, and which rules were broken alone.
+use super::{receiver, sender, shapes::SHAPES};
+use std::{cell::RefCell, collections::BTreeMap};
+
+/// Every number that a call can give, in document 01's order. Of `destination` and `valid` these are the answers.
+const CALLS: [(&str, &[u64]); 14] = [
+    ("read", &[2, 1, 3, 4, 5, 6, 0]),
+    ("destination", &[0, 1]),
+    ("write", &[8, 5, 6, 9, 4, 9, 2, 7, 0]),
+    ("start", &[10, 12, 0]),
+    ("accept", &[11, 10, 12, 13, 14, 15, 16, 0]),
+    ("take", &[11, 10, 17, 7, 0]),
+    ("ack", &[11, 10, 7, 0]),
+    ("begin", &[10, 20, 0]),
+    ("valid", &[0, 1]),
+    ("submit", &[11, 10, 21, 19, 20, 18, 0]),
+    ("send", &[11, 10, 24, 17, 22, 7, 0]),
+    ("acks", &[11, 10, 24, 8, 23, 0]),
+    ("resend", &[11, 10, 24, 25, 0]),
+    ("fetch", &[11, 10, 17, 7, 0]),
+];
+
+/// Two refusals that cannot apply together, or of which the model does not ask the second where the first applies.
+const APART: [(&str, u64, u64); 11] = [
+    ("write", 5, 6),
+    ("write", 5, 4),
+    ("accept", 12, 13),
+    ("accept", 12, 15),
+    ("accept", 13, 14),
+    ("accept", 13, 15),
+    ("accept", 14, 15),
+    ("take", 17, 7),
+    ("ack", 11, 7),
+    ("send", 17, 7),
+    ("fetch", 17, 7),
+];
+
+/// Every earlier and later refusal of a call that can apply together. Reading goes step by step and is left out.
+fn pairs(call: &'static str, numbers: &'static [u64]) -> Vec<(u64, u64)> {
+    let refusals = if ["read", "destination", "valid"].contains(&call) { &[] } else { &numbers[..numbers.len() - 1] };
+    let later = |i: usize| refusals[i + 1..].iter().map(move |later| (refusals[i], *later));
+    let mut pairs: Vec<_> =
+        (0..refusals.len()).flat_map(later).filter(|(a, b)| !APART.contains(&(call, *a, *b))).collect();
+    pairs.sort();
+    pairs.dedup();
+    pairs
+}
+
+#[derive(Default)]
+struct Seen {
+    answers: BTreeMap<(&'static str, u64), usize>,
+    together: BTreeMap<(&'static str, u64, u64), usize>,
+    shapes: BTreeMap<&'static str, usize>,
+    wrong: BTreeMap<(&'static str, &'static str), usize>,
+}
+
+thread_local!(static SEEN: RefCell<Seen> = RefCell::default());
+
+pub fn forget() {
+    SEEN.take();
+}
+
+pub fn answer(call: &'static str, number: u64) {
+    SEEN.with_borrow_mut(|seen| *seen.answers.entry((call, number)).or_default() += 1);
+}
+
+pub fn shape(name: &'static str) {
+    SEEN.with_borrow_mut(|seen| *seen.shapes.entry(name).or_default() += 1);
+}
+
+/// The refusals of a call that applied at once; the first of them was given.
+pub fn together(call: &'static str, applying: &[u64]) {
+    let Some((first, later)) = applying.split_first() else { return };
+    SEEN.with_borrow_mut(|seen| {
+        for number in later {
+            *seen.together.entry((call, *first, *number)).or_default() += 1;
+        }
+    });
+}
+
+/// What a call finds wrong with a state, in document 01's order: its rules, its sizes, the clock. Only what is wrong alone shows
+/// that it is tested.
+pub fn wrong(state: &'static str, found: &[Vec<&'static str>]) {
+    if let Some([rule]) = found.iter().map(Vec::as_slice).find(|wrong| !wrong.is_empty()) {
+        SEEN.with_borrow_mut(|seen| *seen.wrong.entry((state, *rule)).or_default() += 1);
+    }
+}
+
+/// Prints the table; true if nothing in it is zero.
+pub fn table() -> bool {
+    SEEN.with_borrow(|seen| {
+        let mut zeros = 0;
+        let mut counted = |count: Option<&usize>| {
+            zeros += usize::from(count.is_none());
+            count.copied().unwrap_or(0)
+        };
+        println!("how often each call gave each number (0: not refused; of `destination` and `valid`: the answer)");
+        for (call, numbers) in CALLS {
+            let mut told = |number: &u64| format!("{number}: {}", counted(seen.answers.get(&(call, *number))));
+            // Writing has two places for 9.
+            let numbers = numbers.iter().enumerate().filter(|(i, number)| !numbers[..*i].contains(number));
+            println!("  {call:<12}{}", numbers.map(|(_, number)| told(number)).collect::<Vec<_>>().join("   "));
+        }
+        println!("how often an earlier refusal was given and a later one applied too");
+        for (call, numbers) in CALLS {
+            let told = |(a, b)| format!("{a}, {b}: {}", counted(seen.together.get(&(call, a, b))));
+            let pairs: Vec<_> = pairs(call, numbers).into_iter().map(told).collect();
+            pairs.chunks(9).for_each(|some| println!("  {call:<12}{}", some.join("   ")));
+        }
+        println!("how often a call that was not refused was of this kind");
+        for name in SHAPES {
+            println!("  {name}: {}", counted(seen.shapes.get(name)));
+        }
+        println!("how often a call met a state with this rule, size or clock wrong, and no other of its kind");
+        for (state, refusal, rules) in [
+            ("receiver", 11, &receiver::RULES[..]),
+            ("receiver", 10, &receiver::SIZES),
+            ("sender", 11, &sender::RULES),
+            ("sender", 10, &sender::SIZES),
+            ("sender", 24, &sender::CLOCKS),
+        ] {
+            for rule in rules {
+                println!("  {state} {refusal}: {rule}: {}", counted(seen.wrong.get(&(state, *rule))));
+            }
+        }
+        if zeros > 0 {
+            println!("never seen: {zeros} of these");
+        }
+        zeros == 0
+    })
+}

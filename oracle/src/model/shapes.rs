@@ -1,0 +1,101 @@
+//! What a call that is not refused comes to, where document 01 tells cases apart that have no number: they must all occur.
+use super::{
+    answer::World,
+    sender::{IN_FLIGHT, WAITING},
+    timer::rto,
+};
+use crate::calls::Call;
+
+pub const SHAPES: [&str; 25] = [
+    "accept: the next to take",
+    "accept: in a gap behind it",
+    "accept: above highest",
+    "accept: an empty payload",
+    "accept: a full slot",
+    "take: an empty payload",
+    "ack: nothing missing",
+    "ack: 1 to 254 missing",
+    "ack: 255 missing",
+    "ack: more than 255 missing",
+    "submit: nothing stored before",
+    "submit: among packets in flight",
+    "submit: 255 missing",
+    "submit: more than 255 missing",
+    "send: arms the timer",
+    "send: with the timer armed",
+    "acks: none",
+    "acks: a first sample",
+    "acks: samples after others",
+    "acks: a sample above 2^32 - 1",
+    "resend: nothing in flight",
+    "resend: none expired",
+    "resend: expired, no new path",
+    "resend: fewer than the window",
+    "resend: as many as the window",
+];
+
+/// The cases that this call falls under, if it is not refused.
+pub fn of(world: &World, call: &Call) -> Vec<&'static str> {
+    let (receiver, sender) = (&world.receiver, &world.sender);
+    let in_flight = sender.marked(IN_FLIGHT);
+    let mut shapes = vec![];
+    match call {
+        Call::Accept { number, payload } => {
+            shapes.push(match *number {
+                number if number == receiver.next => "accept: the next to take",
+                number if number < receiver.highest => "accept: in a gap behind it",
+                _ => "accept: above highest",
+            });
+            match payload.len() {
+                0 => shapes.push("accept: an empty payload"),
+                length if length == receiver.slot as usize => shapes.push("accept: a full slot"),
+                _ => {}
+            }
+        }
+        Call::Take(_) if receiver.held(receiver.next) == Some(0) => shapes.push("take: an empty payload"),
+        Call::Acknowledge { .. } if receiver.broken().is_empty() => shapes.push(match receiver.missing().len() {
+            0 => "ack: nothing missing",
+            1..=254 => "ack: 1 to 254 missing",
+            255 => "ack: 255 missing",
+            _ => "ack: more than 255 missing",
+        }),
+        Call::Submit { .. } => {
+            shapes.push(match in_flight.len() {
+                0 => "submit: nothing stored before",
+                _ => "submit: among packets in flight",
+            });
+            match receiver.broken().is_empty().then(|| receiver.missing().len()) {
+                None | Some(0..=254) => {}
+                Some(255) => shapes.push("submit: 255 missing"),
+                Some(_) => shapes.push("submit: more than 255 missing"),
+            }
+        }
+        Call::Send { .. } if sender.timer.is_none() => shapes.push("send: arms the timer"),
+        Call::Send { .. } if !sender.marked(WAITING).is_empty() => shapes.push("send: with the timer armed"),
+        Call::Acks { through, nacks, clock } => {
+            let places = in_flight.iter().map(|i| sender.places[*i]);
+            let acked = places.filter(|place| place.number <= *through && !nacks.contains(&place.number));
+            let ages: Vec<u64> = acked.map(|place| clock.saturating_sub(place.sent)).collect();
+            shapes.push(match (ages.len(), sender.timing) {
+                (0, _) => "acks: none",
+                (_, None) => "acks: a first sample",
+                _ => "acks: samples after others",
+            });
+            if ages.iter().any(|age| *age > 4_294_967_295) {
+                shapes.push("acks: a sample above 2^32 - 1");
+            }
+        }
+        Call::Resend { clock, path } => {
+            let old = |i: &&usize| clock.saturating_sub(sender.places[**i].sent) > rto(sender.timing);
+            shapes.push(match in_flight.iter().take_while(old).count() {
+                _ if in_flight.is_empty() => "resend: nothing in flight",
+                0 => "resend: none expired",
+                _ if *path == 0 => "resend: expired, no new path",
+                count if count < sender.window as usize => "resend: fewer than the window",
+                _ => "resend: as many as the window",
+            });
+        }
+        _ => {}
+    }
+    shapes
+}
