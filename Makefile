@@ -1,10 +1,8 @@
 # Two commands for a newcomer: `make demo` and `make test`. Both need the Rattle toolchain (`rt`), `rustc` and `make`, and nothing else.
 SEED ?= 1
-
 SOAK_COUNT ?= 5000000
 
-.PHONY: demo test links compare soak
-.PHONY: demo test links compare host
+.PHONY: demo test links compare soak host
 
 # The story of the lamps: the same packets, given to our receiver and to the Rust's.
 demo:
