@@ -12,13 +12,12 @@ use lib.Seq.{take-at}
 use Rattle.terms.specs.declared.StreamId.{StreamId}
 use Rattle.terms.specs.Ladder.{_when_else_}
 use Rattle.terms.specs.Lists.{_atFrontOf_}
-use Rattle.terms.proofs.Laws.{rung, and-left}
+use Rattle.terms.proofs.Laws.{rung, and-left, past}
 use Rattle.wire.proofs.RoundTrip.{fits}
-use Rattle.receiver.specs.Answers.{Said, refusal, values}
+use Rattle.terms.specs.Answers.{Said, refusal, values}
 use Rattle.receiver.specs.Rules.{rulesOf, slotFits, sizesFit}
 use Rattle.receiver.specs.Meaning.{Sound}
 use Rattle.receiver.specs.declared.Receiver.{Receiver}
-use Rattle.receiver.proofs.Outcomes.{past}
 use Rattle.ack.specs.Acknowledge.{plainAck, plainAckOf, acknowledgeSaid, acknowledges, acknowledgeOf}
 use Rattle.ack.proofs.Ways.{ack-most}
 use Rattle.ack.proofs.Carried.{Carries, acked-reads}

@@ -10,7 +10,7 @@ use Rattle.terms.specs.Lists.{_atFrontOf_}
 use Rattle.terms.specs.Refusals.{numberOf}
 use Rattle.writer.specs.Writing.{packetBytes}
 use Rattle.writer.specs.declared.Fields.{Fields}
-use Rattle.receiver.specs.Answers.{Said, refusal, values, _unlessRefused_else_}
+use Rattle.terms.specs.Answers.{Said, refusal, values, _unlessRefused_else_}
 use Rattle.receiver.specs.Rules.{rules, slotFits}
 use Rattle.receiver.specs.declared.Receiver.{Receiver}
 use Rattle.ack.specs.Fields.{fieldsFrom, nacksFrom}

@@ -8,7 +8,7 @@ ghost use lib.Dec.{ltb};
 ghost use lib.ListN.{length};
 ghost use Rattle.terms.specs.Ladder.{_when_else_};
 ghost use Rattle.terms.specs.Lists.{_atFrontOf_};
-ghost use Rattle.receiver.specs.Answers.{refusal, values, _unlessRefused_else_};
+ghost use Rattle.terms.specs.Answers.{refusal, values, _unlessRefused_else_};
 ghost use Rattle.ack.specs.Missing.{missingFrom};
 ghost use Rattle.ack.specs.Fields.{fieldsFrom};
 ghost use Rattle.ack.specs.Acknowledge.{said, acknowledged, plainAck, acknowledges, acknowledgeOf};

@@ -14,7 +14,7 @@ use Rattle.terms.specs.declared.SeqNo.{SeqNo}
 use Rattle.terms.specs.Lists.{all, _atFrontOf_}
 use Rattle.terms.proofs.Laws.{case, and-left, and-right}
 use Rattle.terms.proofs.Scan.{all-append}
-use Rattle.receiver.specs.Answers.{Said, refusal, values}
+use Rattle.terms.specs.Answers.{Said, refusal, values}
 use Rattle.receiver.specs.Start.{startOf}
 use Rattle.receiver.specs.Accept.{acceptOf}
 use Rattle.receiver.specs.Take.{takeOf}

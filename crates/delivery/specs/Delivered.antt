@@ -11,7 +11,7 @@ use Rattle.terms.specs.declared.StreamId.{StreamId}
 use Rattle.terms.specs.Lists.{all, part}
 use Rattle.wire.specs.BigEndian.{numbersAt}
 use Rattle.packet.specs.Reading.{readOf}
-use Rattle.receiver.specs.Answers.{values}
+use Rattle.terms.specs.Answers.{values}
 use Rattle.receiver.specs.Meaning.{standing, held, isMissing}
 use Rattle.ack.specs.Missing.{isAmong}
 use Rattle.delivery.specs.Runs.{acknowledge, Event, stepOf, inWidth, Run, historyOf, endOf}

@@ -8,7 +8,7 @@ use lib.Dec.{ltb}
 use lib.ListN.{length}
 use Rattle.terms.specs.declared.SeqNo.{SeqNo}
 use Rattle.terms.specs.declared.StreamId.{StreamId}
-use Rattle.receiver.specs.Answers.{Said, values}
+use Rattle.terms.specs.Answers.{Said, values}
 use Rattle.receiver.specs.Start.{startOf}
 use Rattle.receiver.specs.Accept.{acceptOf}
 use Rattle.receiver.specs.Take.{takeOf}

@@ -1,7 +1,8 @@
 -- What the exported calls give a host, which knows numbers and no enum: the refusal's number, or 0 and how many bytes.
 use Prim.Native.Nat.{ℕ}
 use mathlib.Core.List.{List, [], _∷_}
-use Rattle.receiver.specs.Answers.{Said, refusal, values, Outcome}
+use Rattle.terms.specs.Answers.{Said, refusal, values}
+use Rattle.receiver.specs.Answers.{Outcome}
 use Rattle.receiver.specs.declared.Receiver.{Receiver}
 use Rattle.ack.specs.Acknowledge.{Acknowledges}
 use Rattle.host.specs.declared.Counted.{Counted}

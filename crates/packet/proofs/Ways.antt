@@ -1,6 +1,6 @@
 -- The ladders of the option area, at each way out of the code that goes down them. Assumes nothing.
 use Prim.Native.Nat.{ℕ, _+_, _-_, _*_, _≤_, _<_}
-use mathlib.Core.Path.{_≡_, refl, sym, _∙_, ap}
+use mathlib.Core.Path.{_≡_, sym, _∙_}
 use mathlib.Core.Bool.{Bool, true, false}
 use mathlib.Core.List.{List}
 use native.Mathlib.Omega.{arith}
@@ -15,7 +15,7 @@ use Rattle.packet.specs.Destination.{certificateType, certificateLength,
 use Rattle.packet.specs.Options.{destinationAt, signatureAt, signatureSize, afterDestination, following, optionsIn}
 use Rattle.packet.specs.declared.DestinationFound.the-variants as D
 use Rattle.packet.specs.declared.Options.the-variants as O
-use Rattle.packet.specs.Reading.{Said, refused, said, nackCount, flagsOf, optionsAt, optionsEnd, fieldsOf, withOptions, readOf}
+use Rattle.packet.specs.Reading.{refused, nackCount, flagsOf, optionsAt, optionsEnd, fieldsOf, withOptions, readOf}
 use Rattle.packet.specs.declared.DestinationFound.{DestinationFound}
 use Rattle.packet.specs.declared.Found.{Found}
 use Rattle.packet.specs.declared.Options.{Options}

@@ -1,7 +1,7 @@
 -- Numbers that have remainders of their own by 2,048 are distinct: an equal one would have noted its remainder before. Assumes nothing.
-use Prim.Native.Nat.{ℕ, _+_, _%_, _≤_, _<_, min}
+use Prim.Native.Nat.{ℕ, _+_, _%_, _≤_, _<_}
 use mathlib.Core.Path.{_≡_, refl, sym, _∙_, ap}
-use mathlib.Core.Bool.{Bool, true, false, _&&_, _||_, not}
+use mathlib.Core.Bool.{Bool, true, _&&_, _||_}
 use mathlib.Core.List.{List}
 use native.Mathlib.Decide.{ℕ-discrete}
 use native.Mathlib.Numerals.{add-one}
@@ -11,8 +11,7 @@ use lib.Dec.{eqb}
 use lib.ListN.{length, getD, set, take, replicate, length-set, length-take, length-replicate}
 use lib.Seq.{getD-set-same, getD-set-other, getD-take}
 use Rattle.terms.specs.Lists.{all}
-use Rattle.terms.proofs.Laws.{case, and-left, and-right, and-both, all-of}
-use Rattle.receiver.proofs.Facts.{or-right, or-of}
+use Rattle.terms.proofs.Laws.{case, and-left, and-right, and-both, all-of, or-right, or-of}
 use Rattle.places.specs.Table.{_!_, every, differs, aloneAt}
 
 -- after i turns: the remainders of the first i numbers are noted, and the flag says that none of these numbers but 0 stood before

@@ -1,22 +1,20 @@
 -- The state rules as the code tests them: place by place beside one bound, and each number against those before it. Assumes nothing.
-use Prim.Native.Nat.{ℕ, _+_, _-_, _*_, _≤_, _<_, min}
-use mathlib.Core.Path.{_≡_, refl, sym, _∙_, ap, subst}
-use mathlib.Core.Bool.{Bool, true, false, _&&_, _||_, not, true≢false}
-use mathlib.Core.List.{List}
+use Prim.Native.Nat.{ℕ, _+_, _≤_, _<_, min}
+use mathlib.Core.Path.{_≡_, sym, _∙_}
+use mathlib.Core.Bool.{Bool, true, false, _&&_, true≢false}
 use native.Mathlib.Omega.{arith}
 use native.Mathlib.Decide.{ℕ-discrete, decLt}
-use borrow.Author.Tests.{le-leb, lt-leb, leb-true, leb-false, lt-ltb, le-ltb, ltb-true, ltb-false, eq-eqb, ne-eqb, eqb-true, eqb-false, not-true, not-false}
+use borrow.Author.Tests.{le-leb, lt-leb, leb-true, leb-false, lt-ltb, le-ltb, ltb-true, ltb-false, eq-eqb, ne-eqb, eqb-true, eqb-false, not-true}
 use lib.Dec.{leb, ltb, eqb}
-use lib.ListN.{length, getD, take, length-take}
+use lib.ListN.{length, take, length-take}
 use lib.Seq.{getD-take}
 use Rattle.terms.specs.Lists.{all}
-use Rattle.terms.proofs.Laws.{case, bool-iff, and-left, and-right, and-both, all-at, all-of, rung-passed}
-use Rattle.receiver.proofs.Facts.{or-of}
+use Rattle.terms.proofs.Laws.{case, bool-iff, and-left, and-right, all-at, all-of, rung-passed, or-of}
 use Rattle.timer.specs.Timer.{timingFits}
 use Rattle.places.specs.Table.{_!_, every, differs, aloneAt, leastOf, countOf}
 use Rattle.places.specs.Rules.{timerFits, rules, placeHolds, placeAt}
 use Rattle.places.specs.declared.Sender.{Sender}
-use Rattle.places.proofs.Folds.{every-at, every-of, least-at, least-there, Found}
+use Rattle.places.proofs.Folds.{every-at, every-of, least-at, least-there}
 use Rattle.places.proofs.Facts.{unless-at, Ruled, ruled, rules-of}
 
 -- what one place's test says

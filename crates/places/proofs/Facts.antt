@@ -1,17 +1,14 @@
 -- The state rules fact by fact, and back; and as the code tests them. Assumes nothing.
-use Prim.Native.Nat.{ℕ, _+_, _-_, _*_, _≤_, _<_, min}
-use mathlib.Core.Path.{_≡_, refl, sym, _∙_, ap, subst}
-use mathlib.Core.Bool.{Bool, true, false, _&&_, _||_, not, true≢false}
+use Prim.Native.Nat.{ℕ, _+_, _*_, _≤_, _<_}
+use mathlib.Core.Path.{_≡_, refl, sym, subst}
+use mathlib.Core.Bool.{Bool, true, false, _&&_, _||_, not}
 use mathlib.Core.List.{List}
 use native.Mathlib.Nat.{zero-add}
-use native.Mathlib.Omega.{arith}
-use native.Mathlib.Decide.{ℕ-discrete, decLt}
-use borrow.Author.Tests.{le-leb, lt-leb, leb-true, leb-false, lt-ltb, le-ltb, ltb-true, ltb-false, eq-eqb, ne-eqb, eqb-true, eqb-false, not-true, not-false}
+use borrow.Author.Tests.{le-leb, leb-true, lt-ltb, le-ltb, ltb-true, ltb-false, eq-eqb, ne-eqb, eqb-true, eqb-false, not-true, not-false}
 use lib.Dec.{leb, ltb, eqb}
 use lib.ListN.{length, getD}
 use Rattle.terms.specs.Lists.{each}
-use Rattle.terms.proofs.Laws.{case, and-left, and-right, and-both, each-at, each-of}
-use Rattle.receiver.proofs.Facts.{or-right, or-of}
+use Rattle.terms.proofs.Laws.{and-left, and-right, and-both, each-at, each-of, or-right, or-of, or-false-left, or-false-right}
 use Rattle.timer.specs.Timer.{timingFits}
 use Rattle.places.specs.Table.{_!_, isFree, isWaiting, isFlying, countOf}
 use Rattle.places.specs.Rules.{apart, belowWaiting, below, someNumber, freeFrom, emptyPlace, unsent, sentBy, lengthWithin, knownMark, timerFits, rules, countsFit, sizesFit}
@@ -32,15 +29,6 @@ and-false : (a b : Bool) → (a ≡ true → b ≡ true → ⊥) → (a && b) �
 and-false true true f = absurd (f refl refl)
 and-false true false f = refl
 and-false false b f = refl
-
-pub or-false-left : (a b : Bool) → (a || b) ≡ false → a ≡ false
-or-false-left true b e = e
-or-false-left false b e = refl
-
-pub or-false-right : (a b : Bool) → (a || b) ≡ false → b ≡ false
-or-false-right true true e = e
-or-false-right true false e = refl
-or-false-right false b e = e
 
 or-both-false : (a b : Bool) → a ≡ false → b ≡ false → (a || b) ≡ false
 or-both-false a b p q = rw (p, q)

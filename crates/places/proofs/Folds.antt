@@ -1,9 +1,9 @@
 -- The loops over the table, for any test: what one more turn adds to each definition. Assumes nothing.
-use Prim.Native.Nat.{ℕ, zero, suc, _+_, _-_, _≤_, _<_, min}
-use mathlib.Core.Path.{_≡_, refl, sym, _∙_, ap, subst}
-use mathlib.Core.Bool.{Bool, true, false, _&&_, true≢false}
+use Prim.Native.Nat.{ℕ, zero, suc, _+_, _≤_, _<_, min}
+use mathlib.Core.Path.{_≡_, refl, sym, _∙_, subst}
+use mathlib.Core.Bool.{Bool, true, false, _&&_}
 use mathlib.Core.List.{List, [], _∷_, _++_}
-use native.Mathlib.Nat.{zero-add, add-suc, suc-add, add-zero, le-of-suc-le-suc, not-suc-le-zero}
+use native.Mathlib.Nat.{zero-add, not-suc-le-zero}
 use native.Mathlib.Numerals.{add-one}
 use native.Mathlib.Decide.{ℕ-discrete, decLt}
 use native.Mathlib.Omega.{arith}

@@ -1,9 +1,9 @@
 -- What a sender's state may be, and what sizes fit it: document 01, "Sender". Sums are not cut to 32 bits.
-use Prim.Native.Nat.{ℕ, _+_, _-_, _*_, min}
+use Prim.Native.Nat.{ℕ, _+_, _*_}
 use mathlib.Core.Bool.{Bool, true, false, _&&_, _||_, not}
 use mathlib.Core.List.{List}
 use lib.Dec.{leb, ltb, eqb}
-use Rattle.terms.specs.Ladder.{_when_else_}
+use Rattle.terms.specs.Ladder.{_when_else_, _and_}
 use Rattle.terms.specs.Lists.{each}
 use Rattle.timer.specs.Timer.{timingFits}
 use Rattle.timer.specs.declared.Timing.{Timing}
@@ -11,11 +11,6 @@ use Rattle.places.specs.Table.{_!_, _unless_, isFree, isWaiting, isFlyin
 use Rattle.places.specs.declared.Timer.{Timer}
 use Rattle.places.specs.declared.Timer.the-variants as T
 use Rattle.places.specs.declared.Sender.{Sender}
-
-infixr 25 _and_
--- one rule after the other
-abbrev pub _and_ : Bool → Bool → Bool
-a and b = a && b
 
 -- a state from its numbers and its four lists
 abbrev pub stateOf : ℕ → ℕ → ℕ → ℕ → Timing → Timer → ℕ → List ℕ → List ℕ → List ℕ → List ℕ → Sender

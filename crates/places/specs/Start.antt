@@ -1,5 +1,5 @@
 -- What start does, whatever it is given.
-use Prim.Native.Nat.{ℕ, _+_}
+use Prim.Native.Nat.{ℕ}
 use mathlib.Core.Bool.{not}
 use mathlib.Core.List.{List, []}
 use lib.Dec.{eqb}
@@ -7,7 +7,8 @@ use lib.ListN.{replicate}
 use Rattle.terms.specs.declared.SeqNo.{SeqNo}
 use Rattle.terms.specs.Ladder.{_when_else_}
 use Rattle.timer.specs.declared.Timing.the-variants as G
-use Rattle.receiver.specs.Answers.{Said, refusal, values, said, _unlessRefused_else_}
+use Rattle.terms.specs.Answers.{Said, refusal, values, _unlessRefused_else_}
+use Rattle.receiver.specs.Answers.{said}
 use Rattle.places.specs.Rules.{stateOf, sizesFit}
 use Rattle.places.specs.declared.Timer.the-variants as T
 use Rattle.places.specs.declared.Sender.{Sender}

@@ -1,21 +1,17 @@
 -- The rules over the table, as the code tests them: by runs of slots. Assumes nothing.
 use Prim.Native.Nat.{ℕ, _+_, _-_, _%_, _≤_, _<_, min}
-use mathlib.Core.Path.{_≡_, ap}
+use mathlib.Core.Path.{_≡_}
 use mathlib.Core.Bool.{Bool, true, _&&_}
 use mathlib.Core.List.{List}
 use native.Mathlib.Decide.{decLt}
 use native.Mathlib.Omega.{arith}
 use borrow.Author.Tests.{le-leb, leb-true}
 use lib.ListN.{length, getD}
-use lib.Seq.{take-all}
 use Rattle.terms.specs.Lists.{all, each, part}
 use Rattle.terms.proofs.Laws.{case, bool-iff, and-left, and-right, and-both, part-at, part-of}
 use Rattle.receiver.specs.Slots.{atMost, bandedOf, slotNumber}
 use Rattle.receiver.specs.Rules.{freeOutside, lengthAtMost}
 use Rattle.receiver.proofs.Facts.{free-at, free-of, short-at, short-of}
-
-pub whole : (p : ℕ → Bool) (l : List ℕ) → all p (part l 0 (length l)) ≡ all p l
-whole p l = ap (all p) (take-all (length l - 0) l (omega arith))
 
 module _ (marks : List ℕ) (from to inner outer : ℕ) where
   front : Bool

@@ -1,7 +1,7 @@
 -- The state rules fact by fact, and back. Assumes nothing.
 use Prim.Native.Nat.{ℕ, _+_, _-_, _*_, _≤_, _<_}
-use mathlib.Core.Path.{_≡_, refl, sym, _∙_, subst}
-use mathlib.Core.Bool.{Bool, true, false, _&&_, _||_, true≢false}
+use mathlib.Core.Path.{_≡_, sym, _∙_, subst}
+use mathlib.Core.Bool.{true, false, _&&_, _||_, true≢false}
 use mathlib.Core.List.{List}
 use native.Mathlib.Nat.{zero-add}
 use native.Mathlib.Omega.{arith}
@@ -10,25 +10,9 @@ use borrow.Author.Tests.{le-leb, lt-leb, leb-true, leb-false, eq-eqb, eqb-true, 
 use lib.Dec.{leb, eqb}
 use lib.ListN.{length, getD}
 use Rattle.terms.specs.Lists.{all, each}
-use Rattle.terms.proofs.Laws.{case, and-left, and-right, and-both, each-at, each-of, all-at, all-of}
+use Rattle.terms.proofs.Laws.{case, and-left, and-right, and-both, each-at, each-of, all-at, all-of, refuted, or-left, or-right, or-of}
 use Rattle.receiver.specs.Slots.{isFree, isHeld, markOf, slotNumber}
 use Rattle.receiver.specs.Rules.{freeOutside, lengthAtMost, rules, slotFits, sizesFit}
-
--- tests: what fails is false, and of two the other holds
-pub refuted : (b : Bool) → (b ≡ true → ⊥) → false ≡ b
-refuted true f = absurd (f refl)
-refuted false f = refl
-
-pub or-left : (a b : Bool) → b ≡ false → (a || b) ≡ true → a ≡ true
-or-left true b e t = refl
-or-left false b e t = sym e ∙ t
-
-pub or-right : (a b : Bool) → a ≡ false → (a || b) ≡ true → b ≡ true
-or-right a b e t = rw e at t
-
-pub or-of : (a b : Bool) → (a ≡ false → b ≡ true) → (a || b) ≡ true
-or-of true b f = refl
-or-of false b f = f refl
 
 -- the two rules over the table, slot by slot
 module _ (next highest : ℕ) (marks : List ℕ) where

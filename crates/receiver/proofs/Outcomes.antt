@@ -1,7 +1,7 @@
 -- What accept and take leave, once the answer is known, and what holds where they are done. Assumes nothing.
 use Prim.Native.Nat.{ℕ, _+_, _-_, _*_, _%_, _≤_, _<_, max}
-use mathlib.Core.Path.{_≡_, refl, sym, _∙_, ap}
-use mathlib.Core.Bool.{Bool, true, false, not}
+use mathlib.Core.Path.{_≡_, sym, _∙_, ap}
+use mathlib.Core.Bool.{true, not}
 use mathlib.Core.List.{List, [], _∷_, _++_}
 use native.Mathlib.Nat.{mul-le-mul-right}
 use native.Mathlib.Decide.{decLe}
@@ -9,13 +9,13 @@ use native.Mathlib.Omega.{arith}
 use borrow.Author.Tests.{ltb-false, leb-false, eqb-true, eqb-false, not-false}
 use lib.Dec.{leb, ltb, eqb}
 use lib.ListN.{length, set, take, drop}
-use Rattle.terms.specs.Ladder.{_when_else_}
 use Rattle.terms.specs.Lists.{part, _atFrontOf_}
 use Rattle.terms.specs.Refusals.{numberOf}
 use Rattle.terms.specs.declared.Refusal.{Refusal}
-use Rattle.terms.proofs.Laws.{case}
+use Rattle.terms.proofs.Laws.{case, past}
 use Rattle.wire.proofs.Parts.{rest-back}
-use Rattle.receiver.specs.Answers.{Said, refusal, values, said, saidOf}
+use Rattle.terms.specs.Answers.{refusal, values}
+use Rattle.receiver.specs.Answers.{said, saidOf}
 use Rattle.receiver.specs.Slots.{isFree, isHeld, lengthOf, markOf, offsetOf, filled, heldBytes}
 use Rattle.receiver.specs.Rules.{rules, sizesFit}
 use Rattle.receiver.specs.Accept.{acceptSaid, Accepts, accepts}
@@ -25,12 +25,6 @@ use Rattle.receiver.specs.declared.Answer.the-variants as A
 use Rattle.receiver.specs.declared.Given.{Given}
 use Rattle.receiver.specs.declared.Given.the-variants as G
 use Rattle.receiver.proofs.Facts.{Ruled, ruled, Sized, sized}
-
--- a rung of a ladder that ends in values was passed
-pub past : (number : ℕ) (test : Bool) (rest : Said) (given : List ℕ) → (refusal number when test else rest) ≡ values given
-    → (test ≡ false) × (rest ≡ values given)
-past number true rest given h = let z : _≡_ {A = ℕ} 0 1 = cc in absurd (omega arith)
-past number false rest given h = (refl, h)
 
 -- a slot lies within the store
 pub slot-in : (slot number storeLength : ℕ) → storeLength ≡ 512 * slot → number % 512 * slot + slot ≤ storeLength

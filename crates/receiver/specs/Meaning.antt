@@ -6,7 +6,7 @@ use mathlib.Core.List.{List, [], _∷_}
 use lib.Dec.{leb, ltb}
 use lib.ListN.{length}
 use Rattle.terms.specs.Ladder.{_when_else_}
-use Rattle.receiver.specs.Answers.{Said, refusal, values}
+use Rattle.terms.specs.Answers.{Said, refusal, values}
 use Rattle.receiver.specs.Slots.{isFree, markOf, heldBytes}
 use Rattle.receiver.specs.Rules.{rulesOf, sizesFit}
 use Rattle.receiver.specs.declared.Receiver.{Receiver}

@@ -1,16 +1,12 @@
 -- What a receiver's state may be, and what sizes fit it: document 01, "Receiver". Sums are not cut to 32 bits.
 use Prim.Native.Nat.{ℕ, _+_, _-_, _*_}
-use mathlib.Core.Bool.{Bool, _&&_, _||_}
+use mathlib.Core.Bool.{Bool, _||_}
 use mathlib.Core.List.{List}
 use lib.Dec.{leb, eqb}
+use Rattle.terms.specs.Ladder.{_and_}
 use Rattle.terms.specs.Lists.{all, each}
 use Rattle.receiver.specs.Slots.{isFree, isHeld, lengthOf, markOf, slotNumber}
 use Rattle.receiver.specs.declared.Receiver.{Receiver}
-
-infixr 25 _and_
--- one rule after the other
-abbrev pub _and_ : Bool → Bool → Bool
-a and b = a && b
 
 -- a slot is free where its number is above highest; none is below next
 abbrev pub freeOutside : ℕ → ℕ → ℕ → ℕ → Bool

@@ -6,7 +6,8 @@ use lib.Dec.{eqb}
 use lib.ListN.{replicate}
 use Rattle.terms.specs.declared.SeqNo.{SeqNo}
 use Rattle.terms.specs.Ladder.{_when_else_}
-use Rattle.receiver.specs.Answers.{Said, refusal, values, said, _unlessRefused_else_, Outcome}
+use Rattle.terms.specs.Answers.{Said, refusal, values, _unlessRefused_else_}
+use Rattle.receiver.specs.Answers.{said, Outcome}
 use Rattle.receiver.specs.Rules.{sizesFit}
 use Rattle.receiver.specs.declared.Receiver.{Receiver}
 use Rattle.receiver.specs.declared.Started.{Started}

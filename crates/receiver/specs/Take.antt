@@ -6,7 +6,8 @@ use lib.Dec.{ltb}
 use lib.ListN.{length, set}
 use Rattle.terms.specs.Ladder.{_when_else_}
 use Rattle.terms.specs.Lists.{_atFrontOf_}
-use Rattle.receiver.specs.Answers.{Said, refusal, values, saidOf, _unlessRefused_else_, Outcome}
+use Rattle.terms.specs.Answers.{Said, refusal, values, _unlessRefused_else_}
+use Rattle.receiver.specs.Answers.{saidOf, Outcome}
 use Rattle.receiver.specs.Slots.{isFree, lengthOf, markOf, heldBytes}
 use Rattle.receiver.specs.Rules.{rules, sizesFit}
 use Rattle.receiver.specs.declared.Receiver.{Receiver}

@@ -1,21 +1,18 @@
 -- The expired packets as the code finds them: a run from the lowest number in flight that ends at the first young one. Assumes nothing.
-use Prim.Native.Nat.{ℕ, zero, suc, _+_, _-_, _≤_, _<_}
+use Prim.Native.Nat.{ℕ, _+_, _-_, _≤_, _<_}
 use mathlib.Core.Path.{_≡_, refl, sym, _∙_, ap}
-use mathlib.Core.Bool.{Bool, true, false, not, true≢false}
+use mathlib.Core.Bool.{Bool}
 use mathlib.Core.List.{List, [], _∷_, _++_, append-assoc, append-nil}
 use native.Mathlib.Nat.{zero-add}
 use native.Mathlib.Decide.{decLt}
 use native.Mathlib.Omega.{arith}
 use borrow.Author.Tests.{lt-ltb, le-ltb, eqb-true}
-use lib.Dec.{ltb}
 use lib.ListN.{length, take, length-append}
 use lib.Seq.{take-all, take-at}
-use Rattle.terms.specs.Ladder.{_when_else_}
 use Rattle.terms.proofs.Laws.{case}
 use Rattle.places.specs.Table.{_!_, placeOf, leastOf}
 use Rattle.sender.specs.Numbers.{run, numbersAt, markedWith, Tidy}
 use Rattle.sender.specs.Resend.{runWhile, aged, expiredIn, Expires}
-use Rattle.sender.specs.declared.Expired.{Expired}
 use Rattle.sender.proofs.Search.{beyond, Ahead, ahead, run-append}
 use Rattle.sender.proofs.Tables.{least-low}
 

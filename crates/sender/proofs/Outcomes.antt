@@ -1,5 +1,5 @@
 -- What the calls find in a valid state, and what they leave once the answer is known. Assumes nothing.
-use Prim.Native.Nat.{ℕ, zero, suc, _+_, _-_, _*_, _≤_, _<_}
+use Prim.Native.Nat.{ℕ, zero, suc, _+_, _≤_, _<_}
 use mathlib.Core.Path.{_≡_, refl, sym, _∙_, ap}
 use mathlib.Core.Bool.{Bool, true, false, not}
 use mathlib.Core.List.{List, [], _∷_}
@@ -11,19 +11,19 @@ use lib.Dec.{leb, ltb}
 use lib.ListN.{length, getD}
 use Rattle.terms.specs.Ladder.{_when_else_}
 use Rattle.terms.specs.Lists.{_atFrontOf_}
-use Rattle.terms.proofs.Laws.{case, and-left}
+use Rattle.terms.proofs.Laws.{case, and-left, past as passed-rung, or-false-left, or-false-right}
 use Rattle.terms.specs.Refusals.{numberOf}
 use Rattle.terms.specs.declared.Refusal.{Refusal}
-use Rattle.receiver.specs.Answers.{refusal, values, said}
+use Rattle.terms.specs.Answers.{refusal, values}
+use Rattle.receiver.specs.Answers.{said}
 use Rattle.receiver.specs.declared.Answer.{Answer}
 use Rattle.receiver.specs.declared.Answer.the-variants as A
-use Rattle.receiver.proofs.Outcomes.{past as passed-rung}
 use Rattle.timer.specs.Timer.{rtoOf}
 use Rattle.places.specs.Table.{_!_, isFlying, countOf, placeOf}
 use Rattle.places.specs.Start.{Outcome}
 use Rattle.places.specs.Rules.{rules, sizesFit}
 use Rattle.places.specs.declared.Sender.{Sender}
-use Rattle.places.proofs.Facts.{or-false-left, or-false-right, Ruled, ruled, Sized, sized}
+use Rattle.places.proofs.Facts.{Ruled, sized}
 use Rattle.sender.specs.Numbers.{run, numbersAt, markedWith, waiting, inFlight, atRank, sizeOf, offsetOf, bytesAt, packetOf, clockWrong, Flags, Tidy}
 use Rattle.sender.specs.Fetch.{fetchSaid, Fetches, fetchOf}
 use Rattle.sender.specs.Send.{saidSent, sendSaid, armed, moved, departed, sendOf}

@@ -1,34 +1,30 @@
 -- What resend leaves, once the expired packets are found. Assumes nothing.
-use Prim.Native.Nat.{ℕ, zero, suc, _+_, _-_, _≤_, _<_}
+use Prim.Native.Nat.{ℕ, zero, suc, _+_, _≤_, _<_}
 use mathlib.Core.Path.{_≡_, refl, sym, _∙_, ap}
-use mathlib.Core.Bool.{Bool, true, false, _&&_, _||_, not, true≢false, and-false, or-true}
+use mathlib.Core.Bool.{Bool, true, false, not, and-false, or-true}
 use mathlib.Core.List.{List, [], _∷_}
 use native.Mathlib.Nat.{not-suc-le-zero}
 use native.Mathlib.Decide.{ℕ-discrete, decLt}
 use native.Mathlib.Omega.{arith}
-use borrow.Author.Tests.{eq-eqb, ne-eqb, eqb-true, lt-ltb, le-ltb, le-leb, lt-leb, not-false, not-true}
-use lib.Dec.{leb, ltb, eqb}
-use lib.ListN.{length, getD}
+use borrow.Author.Tests.{eq-eqb, ne-eqb, eqb-true, lt-ltb, le-ltb, lt-leb, not-false}
+use lib.ListN.{length}
 use lib.Seq.{take-nil}
-use Rattle.terms.specs.Ladder.{_when_else_}
 use Rattle.terms.specs.Lists.{all}
 use Rattle.terms.specs.Refusals.{numberOf}
 use Rattle.terms.specs.declared.Refusal.{Refusal}
-use Rattle.terms.proofs.Laws.{case, all-of, rung}
-use Rattle.receiver.specs.Answers.{Said, refusal, values, said}
+use Rattle.terms.proofs.Laws.{case, all-of, rung, past as passed-rung}
+use Rattle.terms.specs.Answers.{refusal, values}
+use Rattle.receiver.specs.Answers.{said}
 use Rattle.receiver.specs.declared.Answer.{Answer}
 use Rattle.receiver.specs.declared.Answer.the-variants as A
-use Rattle.receiver.proofs.Outcomes.{past as passed-rung}
 use Rattle.timer.specs.Timer.{rtoOf}
 use Rattle.places.specs.Table.{_!_, differs, placeOf}
 use Rattle.places.specs.Rules.{rules, countsFit}
 use Rattle.places.specs.Start.{Outcome}
 use Rattle.places.specs.declared.Sender.{Sender}
 use Rattle.places.specs.declared.Timer.the-variants as T
-use Rattle.places.proofs.Facts.{Ruled}
-use Rattle.sender.specs.Numbers.{run, numbersAt, markedWith, inFlight, Flags, Tidy, clockWrong}
-use Rattle.sender.specs.Resend.{isDue, resendRefusal, expiredOf, isEmpty, isIn, Expires, flyingBelow, timedAt, resentBy, resendLeaves, resendCount, resendOf}
-use Rattle.sender.specs.declared.Expired.{Expired}
+use Rattle.sender.specs.Numbers.{run, markedWith, inFlight, Flags, Tidy, clockWrong}
+use Rattle.sender.specs.Resend.{resendRefusal, expiredOf, isEmpty, isIn, flyingBelow, timedAt, resentBy, resendLeaves, resendCount, resendOf}
 use Rattle.sender.proofs.Search.{beyond, place-is, stored}
 use Rattle.sender.proofs.Tables.{flags-are}
 use Rattle.sender.proofs.Outcomes.{run-passes, run-below, clock-fair}

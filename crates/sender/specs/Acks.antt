@@ -8,7 +8,7 @@ use lib.ListN.{length}
 use Rattle.terms.specs.Ladder.{_when_else_}
 use Rattle.terms.specs.Lists.{all}
 use Rattle.terms.specs.Refusals.{numberOf}
-use Rattle.receiver.specs.Answers.{Said, refusal, values, _unlessRefused_else_}
+use Rattle.terms.specs.Answers.{Said, refusal, values, _unlessRefused_else_}
 use Rattle.timer.specs.Timer.{sampledOf}
 use Rattle.timer.specs.Window.{grownOf}
 use Rattle.timer.specs.declared.Timing.{Timing}

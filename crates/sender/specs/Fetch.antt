@@ -6,7 +6,8 @@ use lib.Dec.{leb, ltb}
 use lib.ListN.{length}
 use Rattle.terms.specs.Ladder.{_when_else_}
 use Rattle.terms.specs.Lists.{_atFrontOf_}
-use Rattle.receiver.specs.Answers.{Said, refusal, values, saidOf, _unlessRefused_else_}
+use Rattle.terms.specs.Answers.{Said, refusal, values, _unlessRefused_else_}
+use Rattle.receiver.specs.Answers.{saidOf}
 use Rattle.receiver.specs.declared.Given.{Given}
 use Rattle.places.specs.Table.{_!_}
 use Rattle.places.specs.Rules.{rules, sizesFit}

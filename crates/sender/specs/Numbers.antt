@@ -1,14 +1,14 @@
 -- A sender's table by number: which numbers wait and which are in flight, ascending, and the packet of each.
-use Prim.Native.Nat.{ℕ, zero, suc, _+_, _-_, _*_}
+use Prim.Native.Nat.{ℕ, zero, suc, _+_, _*_}
 use mathlib.Core.Path.{_≡_}
-use mathlib.Core.Bool.{Bool, true, false, _&&_, _||_, not}
+use mathlib.Core.Bool.{Bool, _||_}
 use mathlib.Core.List.{List, [], _∷_}
 use Prim.Native.Nat.{_≤_, _<_}
-use lib.Dec.{leb, ltb, eqb}
+use lib.Dec.{ltb, eqb}
 use lib.ListN.{length, getD}
 use Rattle.terms.specs.Ladder.{_when_else_}
 use Rattle.terms.specs.Lists.{part}
-use Rattle.places.specs.Table.{_!_, isWaiting, isFlying, oneIf, placeOf}
+use Rattle.places.specs.Table.{_!_, oneIf, placeOf}
 use Rattle.places.specs.declared.Sender.{Sender}
 
 -- of count numbers from `from` on, those that pass, ascending

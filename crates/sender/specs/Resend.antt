@@ -1,16 +1,15 @@
 -- What resend does, whatever it is given: its answer, and what it leaves of the state. Fetch by rank gives the packets.
-use Prim.Native.Nat.{ℕ, _+_, _-_, _≤_, _<_}
+use Prim.Native.Nat.{ℕ, _+_, _-_}
 use mathlib.Core.Path.{_≡_}
-use mathlib.Core.Bool.{Bool, true, false, _&&_, _||_, not}
+use mathlib.Core.Bool.{Bool, false, _&&_, _||_, not}
 use mathlib.Core.List.{List, [], _∷_}
 use lib.Dec.{leb, ltb}
 use lib.ListN.{length, take}
 use Rattle.terms.specs.Ladder.{_when_else_}
 use Rattle.terms.specs.Lists.{all}
-use Rattle.receiver.specs.Answers.{Said, refusal, values, _unlessRefused_else_}
+use Rattle.terms.specs.Answers.{Said, refusal, values, _unlessRefused_else_}
 use Rattle.timer.specs.Timer.{rtoOf}
 use Rattle.timer.specs.Window.{fallenOf}
-use Rattle.timer.specs.declared.Timing.{Timing}
 use Rattle.timer.specs.declared.Timing.the-variants as G
 use Rattle.places.specs.Table.{_!_, isFlying, differs, placeOf}
 use Rattle.places.specs.Rules.{rules, countsFit}

@@ -2,12 +2,12 @@
 use Prim.Native.Nat.{ℕ, _+_}
 use mathlib.Core.Bool.{not}
 use mathlib.Core.List.{List, [], _∷_}
-use lib.Dec.{leb, ltb, eqb}
+use lib.Dec.{leb, ltb}
 use lib.ListN.{length, set}
 use Rattle.terms.specs.Ladder.{_when_else_}
 use Rattle.terms.specs.Lists.{_atFrontOf_}
 use Rattle.terms.specs.Refusals.{numberOf}
-use Rattle.receiver.specs.Answers.{Said, refusal, values, _unlessRefused_else_}
+use Rattle.terms.specs.Answers.{Said, refusal, values, _unlessRefused_else_}
 use Rattle.timer.specs.Timer.{rtoOf}
 use Rattle.places.specs.Table.{_!_, countOf, placeOf}
 use Rattle.places.specs.Rules.{rules, sizesFit}

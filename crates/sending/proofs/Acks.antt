@@ -9,9 +9,9 @@ use borrow.Author.Tests.{eqb-true, ltb-false}
 use lib.Dec.{ltb}
 use lib.ListN.{length}
 use Rattle.terms.specs.Ladder.{_when_else_}
-use Rattle.receiver.specs.Answers.{refusal, values}
+use Rattle.terms.specs.Answers.{refusal, values}
+use Rattle.terms.proofs.Laws.{past}
 use Rattle.receiver.proofs.Laws.{by-said}
-use Rattle.receiver.proofs.Outcomes.{past}
 use Rattle.places.specs.Table.{isFlying, placeOf}
 use Rattle.places.specs.Rules.{rules, countsFit}
 use Rattle.places.specs.Start.{Outcome}

@@ -1,5 +1,5 @@
 -- How many numbers bear a mark, and which: as many as places do, since no number that bears it stands twice. Assumes nothing.
-use Prim.Native.Nat.{ℕ, zero, suc, _+_, _-_, _≤_, _<_}
+use Prim.Native.Nat.{ℕ, zero, suc, _+_, _≤_, _<_}
 use mathlib.Core.Path.{_≡_, refl, sym, _∙_, ap}
 use mathlib.Core.Bool.{Bool, true, false, _&&_, true≢false}
 use mathlib.Core.List.{List, [], _∷_}
@@ -11,7 +11,7 @@ use lib.Dec.{ltb, eqb}
 use lib.ListN.{length, set}
 use Rattle.terms.specs.Ladder.{_when_else_}
 use Rattle.terms.proofs.Laws.{case, rung}
-use Rattle.receiver.specs.Answers.{Said, refusal}
+use Rattle.terms.specs.Answers.{Said, refusal}
 use Rattle.places.specs.Table.{_!_, countOf, placeOf}
 use Rattle.sender.specs.Numbers.{run, numbersAt, markedWith, replaced}
 use Rattle.sender.specs.Resend.{isEmpty, isIn}

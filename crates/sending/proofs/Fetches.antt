@@ -11,9 +11,8 @@ use lib.Dec.{leb, ltb}
 use lib.ListN.{length}
 use Rattle.terms.specs.Ladder.{_when_else_}
 use Rattle.terms.specs.Lists.{_atFrontOf_}
-use Rattle.terms.proofs.Laws.{case}
-use Rattle.receiver.specs.Answers.{refusal, values}
-use Rattle.receiver.proofs.Outcomes.{past}
+use Rattle.terms.proofs.Laws.{case, past}
+use Rattle.terms.specs.Answers.{refusal, values}
 use Rattle.places.specs.Table.{_!_, placeOf}
 use Rattle.places.specs.Rules.{rules, sizesFit}
 use Rattle.places.specs.declared.Sender.{Sender}

@@ -12,7 +12,7 @@ use lib.ListN.{length}
 use Rattle.terms.specs.declared.StreamId.{StreamId}
 use Rattle.terms.specs.Ladder.{_when_else_}
 use Rattle.terms.proofs.Laws.{and-left, and-right, and-both}
-use Rattle.receiver.specs.Answers.{values}
+use Rattle.terms.specs.Answers.{values}
 use Rattle.receiver.specs.Rules.{rulesOf, slotFits}
 use Rattle.receiver.specs.declared.Receiver.{Receiver}
 use Rattle.places.specs.declared.Sender.{Sender}

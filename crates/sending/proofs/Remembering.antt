@@ -1,6 +1,6 @@
 -- Every run of a sender remembers what was submitted until acks name it: each call keeps a sound state sound, blames neither the rules nor the sizes,
 -- and lets each number's standing become no more than it may. Told by the calls' laws alone. Assumes nothing.
-use Prim.Native.Nat.{ℕ, _≤_, _-_, _<_, _^_}
+use Prim.Native.Nat.{ℕ, _≤_, _<_, _^_}
 use mathlib.Core.Path.{_≡_, refl, sym, _∙_, ap}
 use mathlib.Core.Bool.{true, false}
 use mathlib.Core.List.{List, [], _∷_}
@@ -10,7 +10,7 @@ use native.Mathlib.Omega.{arith}
 use borrow.Author.Tests.{le-leb, lt-leb, ltb-true}
 use lib.ListN.{length}
 use Rattle.terms.proofs.Laws.{case}
-use Rattle.receiver.specs.Answers.{values}
+use Rattle.terms.specs.Answers.{values}
 use Rattle.receiver.proofs.Laws.{by-said}
 use Rattle.sender.specs.Send.{sendOf}
 use Rattle.sender.specs.Acks.{acksOf}

@@ -7,10 +7,9 @@ use mathlib.Core.List.{List, [], _∷_}
 use native.Mathlib.Omega.{arith}
 use borrow.Author.Tests.{le-leb}
 use Rattle.terms.specs.Ladder.{_when_else_}
-use Rattle.terms.proofs.Laws.{rung}
-use Rattle.receiver.specs.Answers.{refusal, values}
+use Rattle.terms.proofs.Laws.{rung, past}
+use Rattle.terms.specs.Answers.{refusal, values}
 use Rattle.receiver.proofs.Laws.{by-said}
-use Rattle.receiver.proofs.Outcomes.{past}
 use Rattle.timer.specs.Timer.{rtoOf, timingFits}
 use Rattle.timer.specs.Window.{fallenOf}
 use Rattle.timer.specs.declared.Timing.the-variants as G

@@ -13,7 +13,7 @@ use lib.ListN.{length}
 use Rattle.terms.specs.Ladder.{_when_else_}
 use Rattle.terms.specs.Lists.{_atFrontOf_}
 use Rattle.terms.proofs.Laws.{case, and-left, and-right}
-use Rattle.receiver.specs.Answers.{Said, refusal, values}
+use Rattle.terms.specs.Answers.{Said, refusal, values}
 use Rattle.receiver.proofs.Laws.{by-said}
 use Rattle.timer.specs.Timer.{rtoOf}
 use Rattle.timer.proofs.Laws.{rto-most}

@@ -11,9 +11,8 @@ use lib.Dec.{leb, eqb}
 use lib.ListN.{length, replicate, getD-replicate}
 use Rattle.terms.specs.declared.SeqNo.{SeqNo}
 use Rattle.terms.specs.Ladder.{_when_else_}
-use Rattle.terms.proofs.Laws.{case}
-use Rattle.receiver.specs.Answers.{refusal, values}
-use Rattle.receiver.proofs.Outcomes.{past}
+use Rattle.terms.proofs.Laws.{case, past}
+use Rattle.terms.specs.Answers.{refusal, values}
 use Rattle.timer.specs.Timer.{timingFits}
 use Rattle.places.specs.Table.{_!_}
 use Rattle.places.specs.Rules.{timerFits, rules, sizesFit}

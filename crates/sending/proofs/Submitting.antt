@@ -12,7 +12,7 @@ use Rattle.terms.specs.declared.StreamId.{StreamId}
 use Rattle.terms.specs.Ladder.{_when_else_}
 use Rattle.terms.specs.Lists.{joined}
 use Rattle.terms.proofs.Laws.{case}
-use Rattle.receiver.specs.Answers.{refusal, values}
+use Rattle.terms.specs.Answers.{refusal, values}
 use Rattle.receiver.specs.Rules.{rulesOf, slotFits}
 use Rattle.receiver.specs.declared.Receiver.{Receiver}
 use Rattle.receiver.proofs.Laws.{by-said}

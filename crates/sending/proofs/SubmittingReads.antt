@@ -11,7 +11,7 @@ use Rattle.terms.proofs.Laws.{rung}
 use Rattle.wire.specs.BigEndian.{numbersAt}
 use Rattle.packet.specs.Flags.{bit}
 use Rattle.packet.specs.Reading.{nackCount, readOf, payloadOf}
-use Rattle.receiver.specs.Answers.{values}
+use Rattle.terms.specs.Answers.{values}
 use Rattle.receiver.specs.Rules.{rulesOf}
 use Rattle.receiver.specs.declared.Receiver.{Receiver}
 use Rattle.ack.specs.Missing.{missingFrom}

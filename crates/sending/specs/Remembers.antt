@@ -9,7 +9,7 @@ use mathlib.Core.Option.{Option, none, some, orElse}
 use lib.Dec.{leb, ltb}
 use lib.ListN.{length, getD}
 use Rattle.terms.specs.Ladder.{_when_else_}
-use Rattle.receiver.specs.Answers.{Said, refusal, values}
+use Rattle.terms.specs.Answers.{Said, refusal, values}
 use Rattle.receiver.specs.Rules.{rulesOf, slotFits}
 use Rattle.receiver.specs.declared.Receiver.{Receiver}
 use Rattle.places.specs.Table.{_unless_}

@@ -6,7 +6,7 @@ use lib.Dec.{leb, ltb, eqb}
 use lib.ListN.{take, drop}
 use Rattle.terms.specs.Ladder.{_when_else_}
 use Rattle.terms.specs.Lists.{all}
-use Rattle.receiver.specs.Answers.{Said, refusal, values}
+use Rattle.terms.specs.Answers.{Said, refusal, values}
 use Rattle.places.specs.Table.{differs, placeOf}
 use Rattle.places.specs.declared.Sender.{Sender}
 use Rattle.sender.specs.Numbers.{sizeOf, offsetOf}

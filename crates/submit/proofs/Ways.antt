@@ -12,7 +12,7 @@ use Rattle.terms.specs.Lists.{_atFrontOf_}
 use Rattle.terms.specs.Refusals.{numberOf}
 use Rattle.terms.specs.declared.Refusal.{Refusal}
 use Rattle.terms.specs.declared.StreamId.{StreamId}
-use Rattle.terms.proofs.Laws.{and-left, and-right}
+use Rattle.terms.proofs.Laws.{and-left, and-right, past, or-false-left, or-false-right}
 use Rattle.terms.proofs.Numbers.{number-some}
 use Rattle.wire.proofs.Parts.{rest-back}
 use Rattle.writer.specs.Writing.{Said as W-Said, written, said, writeOf, outputAfter}
@@ -20,10 +20,9 @@ use Rattle.writer.specs.declared.Fields.{Fields}
 use Rattle.writer.specs.declared.Writing.{Writing}
 use Rattle.writer.specs.declared.Writing.the-variants as W
 use Rattle.writer.proofs.Passed.{refusal-of}
-use Rattle.receiver.specs.Answers.{refusal, values}
+use Rattle.terms.specs.Answers.{refusal, values}
 use Rattle.receiver.specs.Rules.{rulesOf, slotFits}
 use Rattle.receiver.specs.declared.Receiver.{Receiver}
-use Rattle.receiver.proofs.Outcomes.{past}
 use Rattle.ack.specs.Missing.{missingFrom}
 use Rattle.ack.specs.Fields.{atLeast255, fieldsFrom, nacksFrom, ackFieldsOf, ackNacksOf}
 use Rattle.ack.specs.Acknowledge.{ackedFields}
@@ -33,7 +32,7 @@ use Rattle.places.specs.Table.{countOf}
 use Rattle.places.specs.Rules.{rules, sizesFit}
 use Rattle.places.specs.Start.{Outcome}
 use Rattle.places.specs.declared.Sender.{Sender}
-use Rattle.places.proofs.Facts.{or-false-left, or-false-right, sized}
+use Rattle.places.proofs.Facts.{sized}
 use Rattle.sender.specs.Acks.{saidTally}
 use Rattle.sender.specs.declared.Tally.{Tally}
 use Rattle.sender.specs.declared.Tally.the-variants as Y

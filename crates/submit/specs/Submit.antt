@@ -6,7 +6,7 @@ use lib.Dec.{leb, ltb, eqb}
 use lib.ListN.{length, take}
 use Rattle.terms.specs.Ladder.{_when_else_}
 use Rattle.terms.specs.declared.StreamId.{StreamId}
-use Rattle.receiver.specs.Answers.{Said, refusal, values, _unlessRefused_else_}
+use Rattle.terms.specs.Answers.{Said, refusal, values, _unlessRefused_else_}
 use Rattle.receiver.specs.Rules.{rulesOf, slotFits}
 use Rattle.receiver.specs.declared.Receiver.{Receiver}
 use Rattle.places.specs.Table.{countOf}

@@ -1,12 +1,13 @@
 -- Laws that belong to no one function: tests, and tests over lists at each index. Assumes nothing.
 use mathlib.Core.Path.{_≡_, refl, ap, sym, _∙_, subst}
 use mathlib.Core.Bool.{Bool, true, false, _&&_, _||_, not}
-use mathlib.Core.List.{List, [], _∷_, _++_}
+use mathlib.Core.List.{List, [], _∷_}
 use Prim.Native.Nat.{ℕ, zero, suc, _+_, _-_, _≤_, _<_, min}
-use native.Mathlib.Nat.{add-zero, zero-add, add-suc, suc-add, le-of-suc-le-suc, not-suc-le-zero}
+use native.Mathlib.Nat.{add-zero, add-suc, suc-add, le-of-suc-le-suc, not-suc-le-zero}
 use native.Mathlib.Omega.{arith}
-use lib.ListN.{length, getD, take, drop, length-take, length-drop}
+use lib.ListN.{length, getD, drop, length-take, length-drop}
 use lib.Seq.{getD-take, getD-drop}
+use Rattle.terms.specs.Answers.{Said, refusal, values}
 use Rattle.terms.specs.Ladder.{_when_else_}
 use Rattle.terms.specs.Lists.{all, each, part}
 
@@ -46,6 +47,37 @@ pub both-false : (a b : Bool) → (a && not b) ≡ false → (a && b) ≡ false 
 both-false true true p q = q
 both-false true false p q = p
 both-false false b p q = refl
+
+-- tests: what fails is false, and of two the other holds
+pub refuted : (b : Bool) → (b ≡ true → ⊥) → false ≡ b
+refuted true f = absurd (f refl)
+refuted false f = refl
+
+pub or-left : (a b : Bool) → b ≡ false → (a || b) ≡ true → a ≡ true
+or-left true b e t = refl
+or-left false b e t = sym e ∙ t
+
+pub or-right : (a b : Bool) → a ≡ false → (a || b) ≡ true → b ≡ true
+or-right a b e t = rw e at t
+
+pub or-of : (a b : Bool) → (a ≡ false → b ≡ true) → (a || b) ≡ true
+or-of true b f = refl
+or-of false b f = f refl
+
+pub or-false-left : (a b : Bool) → (a || b) ≡ false → a ≡ false
+or-false-left true b e = e
+or-false-left false b e = refl
+
+pub or-false-right : (a b : Bool) → (a || b) ≡ false → b ≡ false
+or-false-right true true e = e
+or-false-right true false e = refl
+or-false-right false b e = e
+
+-- a rung of a ladder that ends in values was passed
+pub past : (number : ℕ) (test : Bool) (rest : Said) (given : List ℕ) → (refusal number when test else rest) ≡ values given
+    → (test ≡ false) × (rest ≡ values given)
+past number true rest given h = let z : _≡_ {A = ℕ} 0 1 = cc in absurd (omega arith)
+past number false rest given h = (refl, h)
 
 -- a test at each place.
 pub each-at : (p : ℕ → ℕ → Bool) (l : List ℕ) (i : ℕ) → each p i l ≡ true → (k : ℕ) → k < length l → p (i + k) (getD l k 0) ≡ true

@@ -1,6 +1,6 @@
 -- The loop that tests a part of a list, for any test p. Assumes nothing.
 use mathlib.Core.Path.{_≡_, refl, ap, sym, _∙_}
-use mathlib.Core.Bool.{Bool, true, false, _&&_, and-true, and-assoc}
+use mathlib.Core.Bool.{Bool, true, _&&_, and-true, and-assoc}
 use mathlib.Core.List.{List, [], _∷_, _++_}
 use Prim.Native.Nat.{ℕ, suc, _+_, _-_, _≤_, _<_, min, max}
 use native.Mathlib.Omega.{arith}
@@ -13,6 +13,10 @@ use Rattle.terms.proofs.Laws.{case}
 pub all-append : (p : ℕ → Bool) (a b : List ℕ) → all p (a ++ b) ≡ (all p a && all p b)
 all-append p [] b = refl
 all-append p (x ∷ a) b = ap (λ (t : Bool). p x && t) (all-append p a b) ∙ sym (and-assoc (p x) (all p a) (all p b))
+
+-- a list is a part of itself
+pub whole : (p : ℕ → Bool) (l : List ℕ) → all p (part l 0 (length l)) ≡ all p l
+whole p l = ap (all p) (take-all (length l - 0) l (omega arith))
 
 pub record Scanned (p : ℕ → Bool) (l : List ℕ) (n from to end : ℕ) (ok : Bool) (i : ℕ) : Type 0 where
   pub long : length l ≡ n

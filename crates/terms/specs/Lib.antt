@@ -1,3 +1,4 @@
 pub mod Refusals
 pub mod Ladder
 pub mod Lists
+pub mod Answers

@@ -1,5 +1,5 @@
 -- Laws of big-endian numbers, each once for every width. Assumes nothing.
-use Prim.Native.Nat.{ℕ, zero, suc, _+_, _*_, _/_, _%_, _^_, _≤_, _<_}
+use Prim.Native.Nat.{ℕ, zero, suc, _+_, _*_, _^_, _≤_, _<_}
 use mathlib.Core.Path.{_≡_, refl, sym, _∙_, ap, subst}
 use mathlib.Core.List.{List, [], _∷_, _++_, append-assoc, append-nil}
 use native.Mathlib.Nat.{zero-add, add-comm, mul-zero, mul-suc}
@@ -8,7 +8,7 @@ use native.Mathlib.Omega.{arith}
 use lib.ListN.{length, getD, take, drop, set, length-append, length-drop}
 use lib.Seq.{take-suc, drop-cons, length-take-le, sets, sets-eq, paste, paste-suc}
 use Rattle.terms.specs.Lists.{_atFrontOf_}
-use Rattle.wire.specs.BigEndian.{spelled, bytesOf, bytesOfEach, numberAt}
+use Rattle.wire.specs.BigEndian.{bytesOf, bytesOfEach, numberAt}
 
 -- the first byte, and the number that the others spell
 pub number-step : (k at : ℕ) (s : List ℕ) → at + suc k ≤ length s → numberAt (suc k) at s ≡ getD s at 0 * 256 ^ k + numberAt k (at + 1) s

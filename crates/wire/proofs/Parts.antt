@@ -1,11 +1,11 @@
 -- A part written into the rest of a slice that starts where the last part ended. Assumes nothing.
-use Prim.Native.Nat.{ℕ, _+_, _-_, _*_, _≤_}
+use Prim.Native.Nat.{ℕ, _+_, _-_, _≤_}
 use mathlib.Core.Path.{_≡_, sym, _∙_, subst}
-use mathlib.Core.List.{List, [], _∷_, _++_, append-assoc, append-nil}
+use mathlib.Core.List.{List, _++_, append-assoc, append-nil}
 use native.Mathlib.Omega.{arith}
 use borrow.Rule.Slice.PartMut.{putMid}
 use lib.ListN.{length, take, drop, length-append, length-take, length-drop, drop-of-length-le}
-use lib.Seq.{take-all, take-at, drop-at, drop-drop, length-take-le}
+use lib.Seq.{take-all, take-at, drop-at, drop-drop}
 use Rattle.terms.specs.Lists.{_atFrontOf_}
 
 -- what a list holds when its rest, lent from an index on and written at the front, has come back

@@ -4,7 +4,7 @@ use mathlib.Core.Bool.{Bool, true, false, _&&_}
 use mathlib.Core.List.{List, [], _∷_, _++_}
 use lib.Dec.{eqb}
 use lib.ListN.{length, replicate}
-use Rattle.receiver.specs.Answers.{Said, refusal, values}
+use Rattle.terms.specs.Answers.{Said, refusal, values}
 use Rattle.delivery.specs.Runs.{Call, Event, begun, eventsOf}
 use Rattle.delivery.specs.History.{Piece, takenIn}
 use Rattle.timer.specs.Timer.{sampledOf, rtoOf}

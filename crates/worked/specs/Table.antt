@@ -2,7 +2,7 @@
 use Prim.Native.Nat.{ℕ, zero, suc, _%_}
 use mathlib.Core.List.{List, [], _∷_, _++_}
 use lib.ListN.{replicate}
-use Rattle.receiver.specs.Answers.{refusal, values}
+use Rattle.terms.specs.Answers.{refusal, values}
 use Rattle.delivery.specs.Runs.{Call, accept, take, acknowledge}
 use Rattle.delivery.specs.History.{Piece}
 use Rattle.worked.specs.Lines.{Line, receives, hands, grows, smooths, resends}

@@ -1,18 +1,16 @@
 -- The ladders of writing, at each way out of the code that goes down them. Assumes nothing.
-use Prim.Native.Nat.{ℕ, _+_, _*_, _≤_, _<_}
-use mathlib.Core.Path.{_≡_, refl, sym, _∙_, ap}
-use mathlib.Core.Bool.{Bool, true, false, _&&_, not}
+use Prim.Native.Nat.{ℕ, _+_, _≤_, _<_}
+use mathlib.Core.Path.{_≡_, sym}
+use mathlib.Core.Bool.{true, false, _&&_, not}
 use mathlib.Core.List.{List}
-use native.Mathlib.Omega.{arith}
-use borrow.Author.Tests.{lt-ltb, le-ltb, ltb-false}
-use lib.Dec.{ltb, eqb}
+use borrow.Author.Tests.{lt-ltb, le-ltb}
+use lib.Dec.{eqb}
 use lib.ListN.{length}
 use Rattle.terms.specs.Ladder.{_when_else_}
-use Rattle.terms.specs.declared.Refusal.{Refusal}
 use Rattle.terms.specs.declared.Refusal.the-variants.{PacketLong, DestinationForm, OfflineAlone, OfflineBlock, OutputShort, NacksMany, PartsUnfit}
 use Rattle.packet.specs.Flags.{bit}
 use Rattle.packet.specs.Destination.{isDestination}
-use Rattle.writer.specs.Writing.{Said, refused, written, partsUnfit, signatureAt, packetLength, sizesOf, judgeOf}
+use Rattle.writer.specs.Writing.{refused, written, partsUnfit, signatureAt, packetLength, sizesOf, judgeOf}
 use Rattle.writer.specs.declared.Fields.{Fields}
 
 module _ (flags nacks destination signature payload room : ℕ) where

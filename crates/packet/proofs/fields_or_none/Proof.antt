@@ -1,5 +1,5 @@
 -- `packet::fields_or_none` meets its contract: it is the values that the answer of `read` says. Assumes nothing.
-use mathlib.Core.Path.{_≡_, sym, _∙_, ap}
+use mathlib.Core.Path.{sym, _∙_, ap}
 use Rattle.packet.specs.Reading.{Said, said}
 use Rattle.packet.specs.declared.Packet.{Packet}
 use Rattle.packet.specs.declared.Reading.{Reading}

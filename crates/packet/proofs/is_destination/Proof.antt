@@ -1,5 +1,5 @@
 -- `packet::is_destination` meets its contract: the destination that was found fills the bytes. Assumes nothing.
-use mathlib.Core.Path.{_≡_, sym, _∙_, ap}
+use mathlib.Core.Path.{sym, _∙_, ap}
 use denote.Ref.{now}
 use lib.ListN.{length}
 use Rattle.packet.specs.Destination.{filling, isDestination}

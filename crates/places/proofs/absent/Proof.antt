@@ -3,8 +3,7 @@ use Prim.Native.Nat.{_-_}
 use mathlib.Core.Path.{refl, _∙_}
 use lib.ListN.{length}
 use denote.Ref.{now}
-use Rattle.terms.proofs.Scan.{Scanned, scan-start, scan-more, scan-end}
-use Rattle.receiver.proofs.Bands.{whole}
+use Rattle.terms.proofs.Scan.{Scanned, scan-start, scan-more, scan-end, whole}
 use Rattle.places.specs.Table.{differs}
 use borrow.Author.Needs.{needs}
 use Rattle.places.proofs.absent.Statement.{statement}

@@ -1,12 +1,12 @@
 -- `places::count_of` meets its contract: after i turns n counts among the first i marks. Assumes nothing.
-use Prim.Native.Nat.{_+_, _-_, _≤_}
-use mathlib.Core.Path.{_≡_, refl, sym, _∙_, ap}
+use Prim.Native.Nat.{_-_, _≤_}
+use mathlib.Core.Path.{_≡_, refl, _∙_, ap}
 use native.Mathlib.Omega.{arith}
 use lib.Dec.{eqb}
 use lib.ListN.{length, getD, take}
 use lib.Seq.{take-all}
 use denote.Ref.{now}
-use Rattle.places.specs.Table.{oneIf, countOf}
+use Rattle.places.specs.Table.{countOf}
 use Rattle.places.proofs.Folds.{count-more, one-most}
 use borrow.Author.Needs.{needs}
 use Rattle.places.proofs.count_of.Statement.{statement}

@@ -3,7 +3,6 @@ use Prim.Native.Nat.{_+_, _-_, _≤_}
 use mathlib.Core.Path.{_≡_}
 use native.Mathlib.Omega.{arith}
 use lib.ListN.{length, drop}
-use denote.Ref.{now}
 use Rattle.places.specs.Table.{placeOf}
 use Rattle.places.proofs.Folds.{place-next, place-here, place-none}
 use borrow.Author.Needs.{needs}

@@ -1,10 +1,9 @@
 -- `places::rules_hold` meets its contract: each early return breaks a rule, and at the end the places' own rules are left. Assumes nothing.
-use mathlib.Core.Path.{_≡_, sym, _∙_}
+use mathlib.Core.Path.{sym, _∙_}
 use mathlib.Core.Bool.{true, true≢false}
 use native.Mathlib.Omega.{arith}
 use borrow.Author.Tests.{not-true, not-false}
-use denote.Ref.{now}
-use Rattle.receiver.proofs.Facts.{refuted}
+use Rattle.terms.proofs.Laws.{refuted}
 use Rattle.places.proofs.Facts.{ruled}
 use Rattle.places.proofs.Check.{alone-of, tests-left}
 use borrow.Author.Needs.{needs}

@@ -1,7 +1,6 @@
 -- `places::spread` meets its contract: a number whose remainder no number before it has is none of them. Assumes nothing.
 use Prim.Native.Nat.{_-_}
 use lib.ListN.{length}
-use denote.Ref.{now}
 use Rattle.places.proofs.Buckets.{Spreads, spreads-start, spreads-more, spreads-end}
 use borrow.Author.Needs.{needs}
 use Rattle.places.proofs.spread.Statement.{statement}

@@ -4,7 +4,8 @@ use mathlib.Core.List.{[]}
 use native.Mathlib.Omega.{arith}
 use lib.ListN.{length}
 use denote.Ref.{now}
-use Rattle.receiver.specs.Answers.{said, values}
+use Rattle.terms.specs.Answers.{values}
+use Rattle.receiver.specs.Answers.{said}
 use Rattle.receiver.specs.Accept.{acceptSaid}
 use Rattle.receiver.proofs.Outcomes.{accept-kept, accept-made, Passed, passed, slot-in}
 use borrow.Author.Needs.{needs}

@@ -6,7 +6,7 @@ use borrow.Author.Tests.{le-leb, lt-leb, lt-ltb, le-ltb, eq-eqb, ne-eqb, not-tru
 use lib.Dec.{ltb}
 use denote.Ref.{now}
 use Rattle.terms.specs.Ladder.{_when_else_}
-use Rattle.receiver.specs.Answers.{refusal, values}
+use Rattle.terms.specs.Answers.{refusal, values}
 use Rattle.receiver.specs.Rules.{rules, sizesFit}
 use Rattle.receiver.specs.Accept.{acceptSaid}
 use borrow.Author.Needs.{needs}

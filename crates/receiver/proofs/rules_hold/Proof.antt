@@ -2,7 +2,8 @@
 use mathlib.Core.Path.{sym, _∙_}
 use native.Mathlib.Omega.{arith}
 use borrow.Author.Tests.{not-true, not-false}
-use Rattle.receiver.proofs.Facts.{ruled, refuted, held-broken, rules-left}
+use Rattle.terms.proofs.Laws.{refuted}
+use Rattle.receiver.proofs.Facts.{ruled, held-broken, rules-left}
 use borrow.Author.Needs.{needs}
 use Rattle.receiver.proofs.rules_hold.Statement.{statement}
 use Rattle.receiver.proofs.rules_hold.Tie as tie

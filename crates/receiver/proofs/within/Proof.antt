@@ -4,9 +4,8 @@ use mathlib.Core.Path.{refl, _∙_}
 use borrow.Author.Needs.{needs}
 use lib.ListN.{length}
 use denote.Ref.{now}
-use Rattle.terms.proofs.Scan.{Scanned, scan-start, scan-more, scan-end}
+use Rattle.terms.proofs.Scan.{Scanned, scan-start, scan-more, scan-end, whole}
 use Rattle.receiver.specs.Slots.{atMost}
-use Rattle.receiver.proofs.Bands.{whole}
 use Rattle.receiver.proofs.within.Statement.{statement}
 use Rattle.receiver.proofs.within.Tie as tie
 

@@ -6,11 +6,11 @@ use native.Mathlib.Omega.{arith}
 use borrow.Author.Tests.{le-leb, lt-leb, lt-ltb, le-ltb, not-true, not-false}
 use mathlib.Core.List.{[], _∷_}
 use lib.ListN.{length}
-use Rattle.receiver.specs.Answers.{values}
+use Rattle.terms.specs.Answers.{values}
 use denote.Ref.{now}
 use Rattle.places.specs.Table.{_!_, placeOf}
 use Rattle.places.specs.Rules.{rules, sizesFit}
-use Rattle.places.proofs.Facts.{Ruled, ruled, sized}
+use Rattle.places.proofs.Facts.{ruled, sized}
 use Rattle.sender.specs.Numbers.{inFlight, sizeOf, markedWith}
 use Rattle.sender.specs.Fetch.{fetchSaid, fetchOf}
 use Rattle.sender.proofs.Outcomes.{rank-missing, tidy, Ranked, ranked-there, packet-in, fetch-made}

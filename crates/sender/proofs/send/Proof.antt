@@ -1,11 +1,11 @@
 -- `sender::send` meets its contract: the judge has the answer, and where a packet leaves it lies within its place. Assumes nothing.
-use Prim.Native.Nat.{_≤_, _<_}
+use Prim.Native.Nat.{_≤_}
 use mathlib.Core.Path.{_≡_, sym, _∙_, ap}
 use mathlib.Core.List.{[], _∷_}
 use native.Mathlib.Omega.{arith}
 use lib.ListN.{length}
 use denote.Ref.{now}
-use Rattle.receiver.specs.Answers.{values}
+use Rattle.terms.specs.Answers.{values}
 use Rattle.timer.proofs.Laws.{rto-most}
 use Rattle.places.specs.Table.{_!_, placeOf}
 use Rattle.places.proofs.Facts.{ruled}

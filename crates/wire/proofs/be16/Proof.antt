@@ -1,5 +1,4 @@
 -- `wire::be16` meets its contract: two bytes, the first counting 256 times. Assumes nothing.
-use mathlib.Core.Path.{_≡_}
 use Rattle.wire.proofs.Laws.{number2}
 use borrow.Author.Needs.{needs}
 use Rattle.wire.proofs.be16.Statement.{statement}

@@ -1,5 +1,4 @@
 -- `wire::be32` meets its contract: four bytes, each counting 256 times the next. Assumes nothing.
-use mathlib.Core.Path.{_≡_}
 use Rattle.wire.proofs.Laws.{number4}
 use borrow.Author.Needs.{needs}
 use Rattle.wire.proofs.be32.Statement.{statement}

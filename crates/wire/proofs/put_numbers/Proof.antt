@@ -1,15 +1,15 @@
 -- `wire::put_numbers` meets its contract: after j turns the first j numbers stand at the front, and the next goes behind them. Assumes nothing.
-use Prim.Native.Nat.{_+_, _-_, _*_, _≤_}
-use mathlib.Core.Path.{_≡_, refl, sym, _∙_, ap}
+use Prim.Native.Nat.{_-_, _*_, _≤_}
+use mathlib.Core.Path.{_≡_, refl, sym, _∙_}
 use native.Mathlib.Omega.{arith}
 use borrow.Author.Needs.{needs}
 use borrow.Rule.Slice.PartMut.{same-len-mid}
-use lib.ListN.{length, getD, take, drop, length-take, length-drop}
+use lib.ListN.{length, getD, take, length-take, length-drop}
 use lib.Seq.{take-length, length-take-le}
 use denote.Ref.{now}
 use Rattle.terms.specs.Lists.{_atFrontOf_}
 use Rattle.wire.specs.BigEndian.{bytesOf, bytesOfEach}
-use Rattle.wire.proofs.Laws.{length-bytes, length-each, each-more}
+use Rattle.wire.proofs.Laws.{length-each, each-more}
 use Rattle.wire.proofs.Parts.{then-put}
 use Rattle.wire.proofs.put_numbers.Statement.{statement}
 use Rattle.wire.proofs.put_numbers.Tie as tie

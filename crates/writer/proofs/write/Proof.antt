@@ -1,13 +1,11 @@
 -- `writer::write` meets its contract: what the judge refuses leaves the output, and else the packet goes to its front. Assumes nothing.
-use Prim.Native.Nat.{ℕ}
-use mathlib.Core.Path.{_≡_, refl, sym, _∙_, ap}
+use mathlib.Core.Path.{refl, sym, _∙_, ap}
 use borrow.Author.Tests.{eq-eqb, ne-eqb}
 use native.Mathlib.Omega.{arith}
-use lib.Dec.{eqb}
 use lib.ListN.{length}
 use denote.Ref.{now}
 use Rattle.terms.proofs.Numbers.{number-some}
-use Rattle.writer.specs.Writing.{said, refused, written, judgeOf, writeOf, outputAfter}
+use Rattle.writer.specs.Writing.{said, written, writeOf}
 use Rattle.writer.proofs.Passed.{refusal-of, passed}
 use borrow.Author.Needs.{needs}
 use Rattle.writer.proofs.write.Statement.{statement}

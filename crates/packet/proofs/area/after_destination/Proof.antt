@@ -2,7 +2,6 @@
 use Prim.Native.Nat.{_+_, _-_}
 use mathlib.Core.Path.{_≡_, sym, _∙_}
 use native.Mathlib.Omega.{arith}
-use denote.Ref.{now}
 use Rattle.terms.specs.Ladder.{_when_else_}
 use Rattle.packet.specs.Flags.{bit}
 use Rattle.packet.specs.Options.{signatureAt}

@@ -1,7 +1,6 @@
 -- `packet::area::options` meets its contract: the delay, then the destination, then what follows it. Assumes nothing.
 use Prim.Native.Nat.{_+_}
 use mathlib.Core.Path.{_≡_, sym, _∙_, ap}
-use native.Mathlib.Omega.{arith}
 use denote.Ref.{now}
 use Rattle.packet.specs.Options.{destinationAt, following, optionsIn}
 use Rattle.packet.proofs.Form.{size-inside}

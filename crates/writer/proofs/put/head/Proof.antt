@@ -1,6 +1,6 @@
 -- `writer::put::head` meets its contract: each part goes behind the last. Assumes nothing.
 use Prim.Native.Nat.{ℕ, _+_, _*_}
-use mathlib.Core.Path.{_≡_, refl, _∙_, ap}
+use mathlib.Core.Path.{refl, _∙_, ap}
 use mathlib.Core.List.{List}
 use native.Mathlib.Omega.{arith}
 use lib.ListN.{length}
@@ -8,7 +8,7 @@ use denote.Ref.{now}
 use Rattle.terms.specs.Lists.{_atFrontOf_, joined}
 use Rattle.wire.specs.BigEndian.{bytesOf, bytesOfEach}
 use Rattle.wire.proofs.Laws.{length-each}
-use Rattle.wire.proofs.Parts.{Front, front-first, front-more, front-at}
+use Rattle.wire.proofs.Parts.{front-first, front-more, front-at}
 use Rattle.writer.specs.Writing.{idParts}
 use Rattle.writer.proofs.Joins.{head-joined}
 use borrow.Author.Needs.{needs}

@@ -3,7 +3,7 @@ use native.Mathlib.Omega.{arith}
 use mathlib.Core.Path.{refl}
 use denote.Ref.{now}
 use Rattle.wire.specs.BigEndian.{bytesOf}
-use Rattle.wire.proofs.Parts.{Front, front-first, front-more}
+use Rattle.wire.proofs.Parts.{front-first, front-more}
 use borrow.Author.Needs.{needs}
 use Rattle.writer.proofs.put.ids.Statement.{statement}
 use Rattle.writer.proofs.put.ids.Tie as tie

@@ -2,16 +2,16 @@
 use Prim.Native.Nat.{ℕ, _+_, _-_, _≤_}
 use mathlib.Core.Path.{_≡_, sym, _∙_, ap}
 use mathlib.Core.List.{List, _++_}
-use mathlib.Core.Bool.{Bool, true}
+use mathlib.Core.Bool.{Bool}
 use native.Mathlib.Omega.{arith}
 use lib.ListN.{length, take, drop}
 use denote.Ref.{now}
 use borrow.Rule.Slice.PartMut.{putMid}
 use Rattle.terms.specs.Ladder.{_when_else_}
-use Rattle.terms.specs.Lists.{_atFrontOf_, joined}
+use Rattle.terms.specs.Lists.{_atFrontOf_}
 use Rattle.wire.proofs.Parts.{Front, front-first, front-more, front-at, front-inside, front-room}
 use Rattle.packet.specs.Flags.{bit}
-use Rattle.writer.specs.Writing.{ifThere, optionParts}
+use Rattle.writer.specs.Writing.{ifThere}
 use Rattle.writer.proofs.Joins.{options-joined, length-if, length-options}
 use borrow.Author.Needs.{needs}
 use Rattle.writer.proofs.put.options.Statement.{statement}

@@ -1,6 +1,6 @@
 -- `writer::put::packet` meets its contract: the head, the options behind it, and the payload behind them. Assumes nothing.
-use Prim.Native.Nat.{ℕ, _+_, _-_, _*_, _≤_}
-use mathlib.Core.Path.{_≡_, sym, _∙_, ap}
+use Prim.Native.Nat.{ℕ, _+_, _-_, _*_}
+use mathlib.Core.Path.{_≡_, _∙_, ap}
 use mathlib.Core.Bool.{Bool}
 use mathlib.Core.List.{List, _++_, append-assoc}
 use native.Mathlib.Omega.{arith}
@@ -11,7 +11,7 @@ use Rattle.terms.specs.Ladder.{_when_else_}
 use Rattle.terms.specs.Lists.{_atFrontOf_, joined}
 use Rattle.wire.proofs.Parts.{Front, front-first, front-more, front-at, front-inside, front-room}
 use Rattle.packet.specs.Flags.{bit}
-use Rattle.writer.specs.Writing.{headParts, optionParts, packetBytes, packetLength}
+use Rattle.writer.specs.Writing.{headParts, optionParts, packetBytes}
 use Rattle.writer.proofs.Joins.{length-head, length-options}
 use borrow.Author.Needs.{needs}
 use Rattle.writer.proofs.put.packet.Statement.{statement}

@@ -1,5 +1,4 @@
 -- `writer::put::put16_if` meets its contract: with the option there it is `put16`, and without it nothing is written. Assumes nothing.
-use mathlib.Core.Path.{_∙_}
 use borrow.Author.Needs.{needs}
 use Rattle.writer.proofs.put.put16_if.Statement.{statement}
 use Rattle.writer.proofs.put.put16_if.Tie as tie
