@@ -31,16 +31,6 @@ compare:
 	@oracle/compare.sh 'receive slips'
 	@oracle/compare.sh ack $(SEED) 20000
 	@oracle/compare.sh timer $(SEED) 1000260
-<<<<<<< HEAD
-
-# Hosts in C over the static library: each prints the lines that our own program of its name prints, but for the last of `thousand`,
-# which tells of the calls by value.
-host:
-	@tools/host lamps thousand
-	@diff crates/lamps/stdout target/host/lamps.out
-	@head -n 3 crates/thousand/stdout | diff - target/host/thousand.out
-	@echo 'host/lamps.c, host/thousand.c: the lines of crates/lamps and crates/thousand'
-=======
 	@oracle/compare.sh sender $(SEED) 20000
 	@oracle/compare.sh model $(SEED) 50000
 
@@ -49,4 +39,11 @@ soak:
 	@oracle/build.sh
 	@tools/build drive
 	@oracle/soak.sh $(SEED) $(SOAK_COUNT)
->>>>>>> 3afdca000d659b82efb13dfa29659e1307f8fe72
+
+# Hosts in C over the static library: each prints the lines that our own program of its name prints, but for the last of `thousand`,
+# which tells of the calls by value.
+host:
+	@tools/host lamps thousand
+	@diff crates/lamps/stdout target/host/lamps.out
+	@head -n 3 crates/thousand/stdout | diff - target/host/thousand.out
+	@echo 'host/lamps.c, host/thousand.c: the lines of crates/lamps and crates/thousand'
