@@ -33,6 +33,8 @@ compare:
 	@oracle/compare.sh timer $(SEED) 1000260
 	@oracle/compare.sh sender $(SEED) 20000
 	@oracle/compare.sh model $(SEED) 50000
+	@target/oracle/oracle model answer <crates/drive/stdin | diff - crates/drive/stdout
+	@echo "crates/drive/stdout: the model's answers"
 
 # Longer: rounds of whole runs and of hostile calls with seeds of their own, until SOAK_COUNT calls were compared.
 soak:
