@@ -16,32 +16,32 @@ use Rattle.host.specs.declared.Fields.{Fields}
 use Rattle.host.specs.Numbers.{Hosted, hosted, begun, answered, counted, HostedAck, hostedAck, wrote}
 use Rattle.host.specs.Fields.{fieldsOf}
 
-pub read-determined : (packet : List ℕ) (a b : Fields) → a ≡ fieldsOf (readOf packet) → b ≡ fieldsOf (readOf packet) → a ≡ b
-read-determined packet a b p q = determined p q
+pub digitmeadow-read-determined : (packet : List ℕ) (a b : Fields) → a ≡ fieldsOf (readOf packet) → b ≡ fieldsOf (readOf packet) → a ≡ b
+digitmeadow-read-determined packet a b p q = determined p q
 
 module _ (s t : Receiver) (x y : List ℕ) where
   -- what two equal outcomes of a call on a receiver leave
   left : (a b : ℕ) → answered a s x ≡ answered b t y → (a ≡ b) × (s ≡ t) × (x ≡ y)
   left a b e = (ap (λ (o : Hosted). o .answer .refusal) e, ap (λ (o : Hosted). o .state) e, ap (λ (o : Hosted). o .lent) e)
 
-  pub accept-determined : (r : Receiver) (number : SeqNo) (payload store : List ℕ) (a b : ℕ)
+  pub digitmeadow-accept-determined : (r : Receiver) (number : SeqNo) (payload store : List ℕ) (a b : ℕ)
       → answered a s x ≡ hosted (acceptOf r number payload store) → answered b t y ≡ hosted (acceptOf r number payload store) → (a ≡ b) × (s ≡ t) × (x ≡ y)
-  accept-determined r number payload store a b p q = left a b (determined p q)
+  digitmeadow-accept-determined r number payload store a b p q = left a b (determined p q)
 
-  pub take-determined : (r : Receiver) (store output : List ℕ) (a b : Counted)
+  pub digitmeadow-take-determined : (r : Receiver) (store output : List ℕ) (a b : Counted)
       → counted a s x ≡ hosted (takeOf r store output) → counted b t y ≡ hosted (takeOf r store output) → (a ≡ b) × (s ≡ t) × (x ≡ y)
-  take-determined r store output a b p q =
+  digitmeadow-take-determined r store output a b p q =
       let e = determined p q in
       (ap (λ (o : Hosted). o .answer) e, ap (λ (o : Hosted). o .state) e, ap (λ (o : Hosted). o .lent) e)
 
-pub start-determined : (n : SeqNo) (slot storeLength : ℕ) (a b : ℕ) (s t : Receiver)
+pub digitmeadow-start-determined : (n : SeqNo) (slot storeLength : ℕ) (a b : ℕ) (s t : Receiver)
     → begun a s ≡ hosted (startOf n slot storeLength) → begun b t ≡ hosted (startOf n slot storeLength) → (a ≡ b) × (s ≡ t)
-start-determined n slot storeLength a b s t p q =
+digitmeadow-start-determined n slot storeLength a b s t p q =
     let e = determined p q in
     (ap (λ (o : Hosted). o .answer .refusal) e, ap (λ (o : Hosted). o .state) e)
 
-pub acknowledge-determined : (r : Receiver) (send recv : StreamId) (output : List ℕ) (a b : Counted) (x y : List ℕ)
+pub digitmeadow-acknowledge-determined : (r : Receiver) (send recv : StreamId) (output : List ℕ) (a b : Counted) (x y : List ℕ)
     → wrote a x ≡ hostedAck (acknowledgeOf r send recv output) → wrote b y ≡ hostedAck (acknowledgeOf r send recv output) → (a ≡ b) × (x ≡ y)
-acknowledge-determined r send recv output a b x y p q =
+digitmeadow-acknowledge-determined r send recv output a b x y p q =
     let e = determined p q in
     (ap (λ (o : HostedAck). o .answer) e, ap (λ (o : HostedAck). o .output) e)

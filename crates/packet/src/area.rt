@@ -14,7 +14,7 @@ ghost use Rattle.packet.specs.Options.{destinationAt, afterDestination, 
 ghost use Rattle.packet.specs.declared.DestinationFound.the-variants.{Whole};
 
 // A destination in the bytes from at to end: 384 key bytes, certificate type, length L, L bytes.
-pub fn destination_in(bytes: &[u8], at: usize, end: usize) -> DestinationFound
+pub(super) fn destination_in(bytes: &[u8], at: usize, end: usize) -> DestinationFound
     requires { ⌜ (at ≤ end) × (end ≤ length (now bytes)) ⌝ }
     ensures { λ r. ⌜ r ≡ destinationIn (now (bytes .entry)) at end ⌝ }
 {
@@ -107,7 +107,7 @@ fn destination_size(packet: &[u8], at: usize, end: usize, from: bool) -> Destina
 }
 
 // Ports `Flags::new`, with the signature that it drops where there is no destination.
-pub fn options(packet: &[u8], at: usize, end: usize, flags: u16) -> Options
+pub(super) fn options(packet: &[u8], at: usize, end: usize, flags: u16) -> Options
     requires { ⌜ (at ≤ end) × (end ≤ length (now packet)) ⌝ }
     ensures { λ r. ⌜ r ≡ optionsIn (now (packet .entry)) at end flags ⌝ }
 {

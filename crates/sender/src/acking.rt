@@ -114,7 +114,7 @@ fn measure_one(m: Measured, sample: u32) -> Measured
 }
 
 // What keeps acks from being done: the first refusal that applies, in document 01's order.
-pub fn judge_acks(s: Sender, through: u32, nack_count: usize, clock: u64) -> Answer
+pub(super) fn judge_acks(s: Sender, through: u32, nack_count: usize, clock: u64) -> Answer
     ensures { λ r. ⌜ said r ≡ acksRefusal s through «nack_count» clock ⌝ }
 {
     let chunk = s.chunk;
@@ -169,7 +169,7 @@ fn freed(s: Sender, flags: [u32; 192], timing: Timing, window: u32, clock: u64) 
 }
 
 // acks where nothing keeps it from being done.
-pub fn acks_done(s: Sender, through: u32, nacks: &[u32], clock: u64) -> Acked
+pub(super) fn acks_done(s: Sender, through: u32, nacks: &[u32], clock: u64) -> Acked
     requires { ⌜ rules s ≡ true ⌝ }
     ensures { λ r. ⌜ ackedOut r ≡ record {
       says = values (length (ackedOf s through (now (nacks .entry))) ∷ []);

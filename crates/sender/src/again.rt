@@ -99,7 +99,7 @@ fn due(timer: Timer, clock: u64) -> bool
 }
 
 // What keeps resend from being done: the first refusal that applies, in document 01's order.
-pub fn judge_resend(s: Sender, clock: u64) -> Answer
+pub(super) fn judge_resend(s: Sender, clock: u64) -> Answer
     ensures { λ r. ⌜ said r ≡ resendRefusal s clock ⌝ }
 {
     let chunk = s.chunk;
@@ -175,7 +175,7 @@ fn stamped(s: Sender, flags: [u32; 192], clock: u64) -> Sender
 }
 
 // resend where nothing keeps it from being done.
-pub fn resend_done(s: Sender, clock: u64, path: bool) -> Resent
+pub(super) fn resend_done(s: Sender, clock: u64, path: bool) -> Resent
     requires { ⌜ (rules s ≡ true) × (s .clock ≤ clock) × (clock ≤ 1000000000000000) ⌝ }
     ensures { λ r. ⌜ resentOut r ≡ record { says = values (resendCount s clock path ∷ []); state = resendLeaves s clock path; lent = [] } ⌝ }
 {

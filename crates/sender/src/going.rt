@@ -10,7 +10,7 @@ ghost use Prim.Native.Nat.{_<_};
 ghost use Rattle.sender.specs.Send.{armed, moved, sendSaid, saidSent};
 
 // What send answers: the first refusal that applies, in document 01's order, or the packet that leaves.
-pub fn judge_send(s: Sender, clock: u64, store_length: usize, room: usize) -> Departure
+pub(super) fn judge_send(s: Sender, clock: u64, store_length: usize, room: usize) -> Departure
     ensures { λ r. ⌜ saidSent r ≡ sendSaid s clock «store_length» room ⌝ }
 {
     let chunk = s.chunk;
@@ -47,7 +47,7 @@ pub fn judge_send(s: Sender, clock: u64, store_length: usize, room: usize) -> De
 }
 
 // Arms the timer if it is unarmed.
-pub fn arm(timer: Timer, due: u64) -> Timer
+pub(super) fn arm(timer: Timer, due: u64) -> Timer
     ensures { λ r. ⌜ r ≡ armed timer due ⌝ }
 {
     match timer {
@@ -57,7 +57,7 @@ pub fn arm(timer: Timer, due: u64) -> Timer
 }
 
 // The state with the packet of a place in flight.
-pub fn departs(s: Sender, at: usize, clock: u64, timer: Timer) -> Sender
+pub(super) fn departs(s: Sender, at: usize, clock: u64, timer: Timer) -> Sender
     requires { ⌜ at < 192 ⌝ }
     ensures { λ r. ⌜ r ≡ moved s at clock timer ⌝ }
 {

@@ -8,7 +8,13 @@ ghost use Rattle.terms.specs.Lists.{_atFrontOf_};
 ghost use Rattle.sender.specs.Numbers.{Tidy, numbersAt, markedWith, atRank, offsetOf, bytesAt, clockWrong, replaced};
 
 // The number at a rank of those that bear the mark, the lowest first; 4,294,967,295 where there is none.
-pub fn ranked<'a>(numbers: &'a [u32], marks: &'a [u32], wanted: u32, rank: u32, next: u32) -> u32
+pub(super) fn ranked<'a>(
+    numbers: &'a [u32],
+    marks: &'a [u32],
+    wanted: u32,
+    rank: u32,
+    next: u32,
+) -> u32
     requires { ⌜ Tidy (now numbers) (now marks) wanted next ⌝ }
     ensures { λ r. ⌜ r ≡ atRank (numbersAt (now (numbers .entry)) next (markedWith wanted (now (marks .entry)))) rank ⌝ }
 {
@@ -25,7 +31,7 @@ pub fn ranked<'a>(numbers: &'a [u32], marks: &'a [u32], wanted: u32, rank: u32, 
 }
 
 // Copies the packet of a place to the output's front.
-pub fn put_packet(chunk: u32, at: usize, size: usize, store: &[u8], output: &mut [u8])
+pub(super) fn put_packet(chunk: u32, at: usize, size: usize, store: &[u8], output: &mut [u8])
     requires { ⌜ (offsetOf chunk at + size ≤ length (now store)) × (size ≤ length (now output)) ⌝ }
     ensures { λ _. ⌜ now (output .exit) ≡ bytesAt chunk at size (now (store .entry)) atFrontOf now (output .entry) ⌝ }
 {
@@ -35,7 +41,7 @@ pub fn put_packet(chunk: u32, at: usize, size: usize, store: &[u8], output: &mut
 }
 
 // Whether a clock is below the last accepted one, or above 10^15.
-pub fn clock_wrong(last: u64, clock: u64) -> bool
+pub(super) fn clock_wrong(last: u64, clock: u64) -> bool
     ensures { λ r. ⌜ r ≡ clockWrong last clock ⌝ }
 {
     (clock < last) | (clock > 1000000000000000)
@@ -54,7 +60,7 @@ fn chosen64(x: u64, flag: u32, value: u64) -> u64
 }
 
 // Puts the value into each flagged place.
-pub fn replace32(list: &mut [u32; 192], flags: &[u32], value: u32)
+pub(super) fn replace32(list: &mut [u32; 192], flags: &[u32], value: u32)
     requires { ⌜ (length (now list) ≡ 192) × (length (now flags) ≡ 192) ⌝ }
     ensures { λ _. ⌜ now (list .exit) ≡ replaced value (markedWith 1 (now (flags .entry))) 0 (now (list .entry)) ⌝ }
 {
@@ -65,7 +71,7 @@ pub fn replace32(list: &mut [u32; 192], flags: &[u32], value: u32)
     }
 }
 
-pub fn replace64(list: &mut [u64; 192], flags: &[u32], value: u64)
+pub(super) fn replace64(list: &mut [u64; 192], flags: &[u32], value: u64)
     requires { ⌜ (length (now list) ≡ 192) × (length (now flags) ≡ 192) ⌝ }
     ensures { λ _. ⌜ now (list .exit) ≡ replaced value (markedWith 1 (now (flags .entry))) 0 (now (list .entry)) ⌝ }
 {

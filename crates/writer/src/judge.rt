@@ -93,7 +93,7 @@ fn sizes(
 }
 
 // The refusals in document 01's order, or the lengths.
-pub fn judge(
+pub(super) fn judge(
     fields: Fields,
     nacks: usize,
     destination: &[u8],

@@ -72,7 +72,7 @@ fn options(rest: &mut [u8], f: Fields, destination: &[u8], signature: &[u8])
 }
 
 // The whole packet.
-pub fn packet(
+pub(super) fn packet(
     f: Fields,
     nacks: &[u32],
     destination: &[u8],
