@@ -12,7 +12,8 @@ use lib.ListN.{length, getD, set, take, replicate, length-set, length-take, leng
 use lib.Seq.{getD-set-same, getD-set-other, getD-take}
 use Rattle.terms.specs.Lists.{all}
 use Rattle.terms.proofs.Laws.{case, and-left, and-right, and-both, all-of, or-right, or-of}
-use Rattle.places.specs.Table.{_!_, every, differs, aloneAt}
+use Rattle.places.specs.Steps.{every, aloneAt}
+use Rattle.places.specs.Table.{_!_, differs}
 
 -- after i turns: the remainders of the first i numbers are noted, and the flag says that none of these numbers but 0 stood before
 pub record Spreads (numbers seen : List ℕ) (ok : Bool) (i : ℕ) : Type 0 where

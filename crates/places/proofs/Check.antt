@@ -11,8 +11,9 @@ use lib.Seq.{getD-take}
 use Rattle.terms.specs.Lists.{all}
 use Rattle.terms.proofs.Laws.{case, bool-iff, and-left, and-right, all-at, all-of, rung-passed, or-of}
 use Rattle.timer.specs.Timer.{timingFits}
-use Rattle.places.specs.Table.{_!_, every, differs, aloneAt, leastOf, countOf}
-use Rattle.places.specs.Rules.{timerFits, rules, placeHolds, placeAt}
+use Rattle.places.specs.Table.{_!_, differs, countOf}
+use Rattle.places.specs.Steps.{every, aloneAt, leastOf, placeHolds, placeAt}
+use Rattle.places.specs.Rules.{timerFits, rules}
 use Rattle.places.specs.declared.Sender.{Sender}
 use Rattle.places.proofs.Folds.{every-at, every-of, least-at, least-there}
 use Rattle.places.proofs.Facts.{unless-at, Ruled, ruled, rules-of}

@@ -8,7 +8,8 @@ use Rattle.terms.specs.declared.SeqNo.{SeqNo}
 use Rattle.terms.proofs.Determined.{determined}
 use Rattle.receiver.proofs.Determined.{said-one}
 use Rattle.terms.specs.Lists.{all}
-use Rattle.places.specs.Table.{differs, countOf, placeOf, leastOf}
+use Rattle.places.specs.Steps.{leastOf}
+use Rattle.places.specs.Table.{differs, countOf, placeOf}
 use Rattle.places.specs.Rules.{rules, countsFit, sizesFit}
 use Rattle.places.specs.Start.{startOf, started, Outcome}
 use Rattle.places.specs.declared.Sender.{Sender}

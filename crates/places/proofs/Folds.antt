@@ -12,7 +12,8 @@ use lib.Dec.{eqb}
 use lib.ListN.{length, getD, take, drop}
 use lib.Seq.{take-suc, drop-cons, drop-length}
 use Rattle.terms.proofs.Laws.{case, and-left, and-right, and-both}
-use Rattle.places.specs.Table.{_!_, every, oneIf, countOf, placeOf, candidateOf, leastOf}
+use Rattle.places.specs.Steps.{every, candidateOf, leastOf}
+use Rattle.places.specs.Table.{_!_, oneIf, countOf, placeOf}
 
 -- each index below n
 pub every-none : (p : ℕ → Bool) → true ≡ every 0 p

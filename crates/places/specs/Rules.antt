@@ -1,9 +1,9 @@
 -- What a sender's state may be, and what sizes fit it: document 01, "Sender". Sums are not cut to 32 bits.
 use Prim.Native.Nat.{ℕ, _+_, _*_}
-use mathlib.Core.Bool.{Bool, true, false, _&&_, _||_, not}
+use mathlib.Core.Bool.{Bool, true, _&&_, _||_, not}
 use mathlib.Core.List.{List}
 use lib.Dec.{leb, ltb, eqb}
-use Rattle.terms.specs.Ladder.{_when_else_, _and_}
+use Rattle.terms.specs.Ladder.{_and_}
 use Rattle.terms.specs.Lists.{each}
 use Rattle.timer.specs.Timer.{timingFits}
 use Rattle.timer.specs.declared.Timing.{Timing}
@@ -106,19 +106,3 @@ countsFit chunk count = leb 1 chunk and leb chunk 1812 and leb 1 count and leb c
 -- and the store exactly K × (C + 1,044) bytes
 unfoldable pub sizesFit : ℕ → ℕ → ℕ → Bool
 sizesFit chunk count storeLength = countsFit chunk count and eqb storeLength (count * (chunk + 1044))
-
--- the rules of one place together, as the code tests them: bound is the lowest waiting number, or next where none waits
-unfoldable pub placeHolds : ℕ → ℕ → ℕ → ℕ → ℕ → ℕ → ℕ → ℕ → ℕ → ℕ → Bool
-placeHolds chunk count next bound clock i number size sent mark =
-    (eqb number 0 && (eqb size 0 && eqb sent 0)) when eqb mark 0 else
-    false when leb count i else
-    false when ltb number 1 else
-    false when ltb size 22 else
-    false when ltb (chunk + 1044) size else
-    (eqb sent 0 && ltb number next) when eqb mark 1 else
-    false when ltb 2 mark else
-    (ltb number bound && leb sent clock)
-
-abbrev pub placeAt : ℕ → ℕ → ℕ → ℕ → ℕ → List ℕ → List ℕ → List ℕ → List ℕ → ℕ → Bool
-placeAt chunk count next bound clock numbers lengths sent marks i =
-    placeHolds chunk count next bound clock i (numbers ! i) (lengths ! i) (sent ! i) (marks ! i)

@@ -2,13 +2,14 @@
 // Ports what `Stream` keeps for sending. Its `BTreeMap` of unacked packets and its `VecDeque` of pending ones become one table.
 ghost use mathlib.Core.Path.{_≡_};
 ghost use mathlib.Core.Bool.{true};
-ghost use Prim.Native.Nat.{_+_, _≤_, _<_, min};
+ghost use Prim.Native.Nat.{_≤_, _<_, min};
 ghost use lib.Dec.{eqb};
 ghost use lib.ListN.{length};
 ghost use Rattle.terms.specs.Lists.{all};
 ghost use Rattle.timer.specs.Timer.{timingFits};
-ghost use Rattle.places.specs.Table.{every, oneIf, countOf, placeOf, differs, aloneAt, candidateOf, leastOf};
-ghost use Rattle.places.specs.Rules.{stateOf, timerFits, rules, countsFit, sizesFit, placeHolds, placeAt};
+ghost use Rattle.places.specs.Table.{oneIf, countOf, placeOf, differs};
+ghost use Rattle.places.specs.Steps.{every, aloneAt, candidateOf, leastOf, placeHolds, placeAt};
+ghost use Rattle.places.specs.Rules.{stateOf, timerFits, rules, countsFit, sizesFit};
 ghost use Rattle.places.specs.Start.{nothingStored, startOf, started};
 use receiver::Answer;
 use terms::Refusal;
@@ -275,7 +276,7 @@ fn timing_fits(timing: Timing) -> bool
 }
 
 // Whether a state keeps document 01's rules: what stands behind refusal 11, here and in the calls above. It runs at every call.
-// That no number stands twice is a comparison of each with all before it, in vector code; the rest touches each place once.
+// Each part is a pass over the table without an early way out.
 pub fn rules_hold<'a>(
     chunk: u32,
     count: u32,

@@ -10,9 +10,11 @@ use borrow.Author.Tests.{lt-ltb, le-ltb, eqb-true}
 use lib.ListN.{length, take, length-append}
 use lib.Seq.{take-all, take-at}
 use Rattle.terms.proofs.Laws.{case}
-use Rattle.places.specs.Table.{_!_, placeOf, leastOf}
-use Rattle.sender.specs.Numbers.{run, numbersAt, markedWith, Tidy}
-use Rattle.sender.specs.Resend.{runWhile, aged, expiredIn, Expires}
+use Rattle.places.specs.Steps.{leastOf}
+use Rattle.places.specs.Table.{_!_, placeOf}
+use Rattle.sender.specs.Numbers.{run, numbersAt, markedWith}
+use Rattle.sender.specs.Steps.{Tidy, Expires}
+use Rattle.sender.specs.Resend.{runWhile, aged, expiredIn}
 use Rattle.sender.proofs.Search.{beyond, Ahead, ahead, run-append}
 use Rattle.sender.proofs.Tables.{least-low}
 

@@ -24,10 +24,11 @@ use Rattle.places.specs.Start.{Outcome}
 use Rattle.places.specs.Rules.{rules, sizesFit}
 use Rattle.places.specs.declared.Sender.{Sender}
 use Rattle.places.proofs.Facts.{Ruled, sized}
-use Rattle.sender.specs.Numbers.{run, numbersAt, markedWith, waiting, inFlight, atRank, sizeOf, offsetOf, bytesAt, packetOf, clockWrong, Flags, Tidy}
+use Rattle.sender.specs.Numbers.{run, numbersAt, markedWith, waiting, inFlight, sizeOf, offsetOf, bytesAt, packetOf, clockWrong}
 use Rattle.sender.specs.Fetch.{fetchSaid, Fetches, fetchOf}
 use Rattle.sender.specs.Send.{saidSent, sendSaid, armed, moved, departed, sendOf}
-use Rattle.sender.specs.Acks.{ackedAt, ackedOf, acksRefusal, sampleOf, timedBy, grownBy, Measures, freedBy, acksLeave, acksOf}
+use Rattle.sender.specs.Steps.{atRank, Flags, Tidy, Measures}
+use Rattle.sender.specs.Acks.{ackedAt, ackedOf, acksRefusal, sampleOf, timedBy, grownBy, freedBy, acksLeave, acksOf}
 use Rattle.sender.specs.declared.Measured.{Measured}
 use Rattle.sender.specs.declared.Departure.{Departure}
 use Rattle.sender.specs.declared.Departure.the-variants as D

@@ -23,8 +23,9 @@ use Rattle.places.specs.Rules.{rules, countsFit}
 use Rattle.places.specs.Start.{Outcome}
 use Rattle.places.specs.declared.Sender.{Sender}
 use Rattle.places.specs.declared.Timer.the-variants as T
-use Rattle.sender.specs.Numbers.{run, markedWith, inFlight, Flags, Tidy, clockWrong}
-use Rattle.sender.specs.Resend.{resendRefusal, expiredOf, isEmpty, isIn, flyingBelow, timedAt, resentBy, resendLeaves, resendCount, resendOf}
+use Rattle.sender.specs.Numbers.{run, markedWith, inFlight, clockWrong}
+use Rattle.sender.specs.Steps.{Flags, Tidy, flyingBelow}
+use Rattle.sender.specs.Resend.{resendRefusal, expiredOf, isEmpty, isIn, timedAt, resentBy, resendLeaves, resendCount, resendOf}
 use Rattle.sender.proofs.Search.{beyond, place-is, stored}
 use Rattle.sender.proofs.Tables.{flags-are}
 use Rattle.sender.proofs.Outcomes.{run-passes, run-below, clock-fair}

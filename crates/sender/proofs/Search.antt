@@ -12,9 +12,11 @@ use lib.ListN.{length, getD, drop}
 use lib.Seq.{getD-drop, drop-drop}
 use Rattle.terms.specs.Ladder.{_when_else_}
 use Rattle.terms.proofs.Laws.{case}
-use Rattle.places.specs.Table.{_!_, placeOf, leastOf}
+use Rattle.places.specs.Steps.{leastOf}
+use Rattle.places.specs.Table.{_!_, placeOf}
 use Rattle.places.proofs.Folds.{least-at, least-there, least-most}
-use Rattle.sender.specs.Numbers.{run, numbersAt, markedWith, Tidy}
+use Rattle.sender.specs.Steps.{Tidy}
+use Rattle.sender.specs.Numbers.{run, numbersAt, markedWith}
 
 -- past the end a list has nothing
 pub beyond : (l : List ℕ) (i : ℕ) (d : ℕ) → length l ≤ i → getD l i d ≡ d

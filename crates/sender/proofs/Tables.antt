@@ -15,9 +15,11 @@ use Rattle.terms.proofs.Laws.{case}
 use Rattle.timer.specs.Timer.{sampledOf}
 use Rattle.timer.specs.Window.{grownOf}
 use Rattle.timer.specs.declared.Timing.{Timing}
-use Rattle.places.specs.Table.{_!_, oneIf, placeOf, candidateOf, leastOf}
-use Rattle.sender.specs.Numbers.{run, numbersAt, markedWith, replaced, Flags, Tidy}
-use Rattle.sender.specs.Acks.{timedBy, grownBy, Measures}
+use Rattle.places.specs.Steps.{candidateOf, leastOf}
+use Rattle.places.specs.Table.{_!_, oneIf, placeOf}
+use Rattle.sender.specs.Numbers.{run, numbersAt, markedWith, replaced}
+use Rattle.sender.specs.Steps.{Flags, Tidy, Measures}
+use Rattle.sender.specs.Acks.{timedBy, grownBy}
 use Rattle.sender.specs.declared.Measured.{Measured}
 use Rattle.sender.proofs.Search.{beyond, Ahead, ahead}
 

@@ -1,6 +1,5 @@
 -- What acks does, whatever it is given: its answer, and what it leaves of the state.
 use Prim.Native.Nat.{ℕ, _-_, min}
-use mathlib.Core.Path.{_≡_}
 use mathlib.Core.Bool.{Bool, _&&_, not}
 use mathlib.Core.List.{List, [], _∷_}
 use lib.Dec.{leb, ltb}
@@ -20,9 +19,8 @@ use Rattle.sender.specs.Numbers.{numbersAt, replaced, clockWrong}
 use Rattle.sender.specs.declared.Tally.{Tally}
 use Rattle.sender.specs.declared.Tally.the-variants as Y
 use Rattle.sender.specs.declared.Acked.{Acked}
-use Rattle.sender.specs.declared.Measured.{Measured}
 
--- acks and resend give a count
+-- submit, acks and resend give a count
 abbrev pub saidTally : Tally → Said
 saidTally (Y.Count n) = values (n ∷ [])
 saidTally (Y.Refused why) = refusal (numberOf why)
@@ -38,7 +36,7 @@ ackedAt numbers marks through nacks i = acknowledged through nacks (numbers ! i)
 abbrev pub ackedOf : Sender → ℕ → List ℕ → List ℕ
 ackedOf s through nacks = numbersAt (s .numbers) (s .next .0) (ackedAt (s .numbers) (s .marks) through nacks)
 
--- the answer, by document 01's numbers in its order
+-- what keeps acks from being done, by document 01's numbers in its order
 unfoldable pub acksRefusal : Sender → ℕ → ℕ → ℕ → Said
 acksRefusal s through nackCount clock =
     -- state breaks the rules
@@ -65,12 +63,6 @@ timedBy sample timing (n ∷ l) = timedBy sample (sampledOf timing (sample n)) l
 abbrev pub grownBy : ℕ → List ℕ → ℕ
 grownBy window [] = window
 grownBy window (n ∷ l) = grownBy (grownOf window) l
-
--- what the samples make of timing and window, and how many there are
-pub record Measures (sample : ℕ → ℕ) (timing : Timing) (window : ℕ) (l : List ℕ) (m : Measured) : Type 0 where
-  pub times : m .timing ≡ timedBy sample timing l
-  pub grows : m .window ≡ grownBy window l
-  pub counts : m .count ≡ length l
 
 -- a state with new timing and window at a clock, and each place that passes freed: every field 0
 abbrev pub freedBy : Sender → Timing → ℕ → ℕ → (ℕ → Bool) → Sender

@@ -4,3 +4,4 @@ pub mod Fetch
 pub mod Send
 pub mod Acks
 pub mod Resend
+pub mod Steps

@@ -1,14 +1,11 @@
 -- A sender's table by number: which numbers wait and which are in flight, ascending, and the packet of each.
 use Prim.Native.Nat.{ℕ, zero, suc, _+_, _*_}
-use mathlib.Core.Path.{_≡_}
 use mathlib.Core.Bool.{Bool, _||_}
 use mathlib.Core.List.{List, [], _∷_}
-use Prim.Native.Nat.{_≤_, _<_}
 use lib.Dec.{ltb, eqb}
-use lib.ListN.{length, getD}
 use Rattle.terms.specs.Ladder.{_when_else_}
 use Rattle.terms.specs.Lists.{part}
-use Rattle.places.specs.Table.{_!_, oneIf, placeOf}
+use Rattle.places.specs.Table.{_!_, placeOf}
 use Rattle.places.specs.declared.Sender.{Sender}
 
 -- of count numbers from `from` on, those that pass, ascending
@@ -28,10 +25,6 @@ waiting s = numbersAt (s .numbers) (s .next .0) (markedWith 1 (s .marks))
 
 abbrev pub inFlight : Sender → List ℕ
 inFlight s = numbersAt (s .numbers) (s .next .0) (markedWith 2 (s .marks))
-
--- the number at a rank, and 4,294,967,295 where there is none
-abbrev pub atRank : List ℕ → ℕ → ℕ
-atRank l rank = getD l rank 4294967295
 
 -- the length of a number's packet, and its bytes: at the front of its place in the store
 abbrev pub sizeOf : Sender → ℕ → ℕ
@@ -54,18 +47,3 @@ clockWrong last clock = ltb clock last || ltb 1000000000000000 clock
 unfoldable pub replaced : ℕ → (ℕ → Bool) → ℕ → List ℕ → List ℕ
 replaced value p i [] = []
 replaced value p i (x ∷ l) = (value when p i else x) ∷ replaced value p (suc i) l
-
--- flags of the places that pass: 1 there, and 0 elsewhere
-pub record Flags (p : ℕ → Bool) (flags : List ℕ) : Type 0 where
-  pub long : length flags ≡ 192
-  pub at-place : (i : ℕ) → i < 192 → flags ! i ≡ oneIf (p i)
-
--- what a search by mark asks of the table: no number but 0 stands twice, none reaches next, and what bears the mark has a number
-pub record Tidy (numbers marks : List ℕ) (wanted next : ℕ) : Type 0 where
-  pub row : length numbers ≡ 192
-  pub table : length marks ≡ 192
-  pub mark : 1 ≤ wanted
-  pub alone : (i j : ℕ) → i < 192 → j < 192 → (i ≡ j → ⊥) → numbers ! i ≡ numbers ! j → numbers ! i ≡ 0
-  pub low : (i : ℕ) → i < 192 → marks ! i ≡ wanted → numbers ! i < next
-  pub some : (i : ℕ) → i < 192 → marks ! i ≡ wanted → 1 ≤ numbers ! i
-  pub width : next ≤ 4294967295

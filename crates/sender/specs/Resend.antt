@@ -1,7 +1,6 @@
 -- What resend does, whatever it is given: its answer, and what it leaves of the state. Fetch by rank gives the packets.
 use Prim.Native.Nat.{ℕ, _+_, _-_}
-use mathlib.Core.Path.{_≡_}
-use mathlib.Core.Bool.{Bool, false, _&&_, _||_, not}
+use mathlib.Core.Bool.{Bool, false, _||_, not}
 use mathlib.Core.List.{List, [], _∷_}
 use lib.Dec.{leb, ltb}
 use lib.ListN.{length, take}
@@ -11,16 +10,15 @@ use Rattle.terms.specs.Answers.{Said, refusal, values, _unlessRefused_else_}
 use Rattle.timer.specs.Timer.{rtoOf}
 use Rattle.timer.specs.Window.{fallenOf}
 use Rattle.timer.specs.declared.Timing.the-variants as G
-use Rattle.places.specs.Table.{_!_, isFlying, differs, placeOf}
+use Rattle.places.specs.Table.{_!_, differs, placeOf}
 use Rattle.places.specs.Rules.{rules, countsFit}
 use Rattle.places.specs.Start.{Outcome}
 use Rattle.places.specs.declared.Sender.{Sender}
 use Rattle.places.specs.declared.Timer.{Timer}
 use Rattle.places.specs.declared.Timer.the-variants as T
-use Rattle.sender.specs.Numbers.{run, numbersAt, markedWith, inFlight, replaced, clockWrong}
+use Rattle.sender.specs.Numbers.{numbersAt, markedWith, inFlight, replaced, clockWrong}
 use Rattle.sender.specs.Acks.{saidTally}
 use Rattle.sender.specs.declared.Resent.{Resent}
-use Rattle.sender.specs.declared.Expired.{Expired}
 
 -- the timer is due: armed, and the clock at or past it
 unfoldable pub isDue : Timer → ℕ → Bool
@@ -120,12 +118,3 @@ resendOf s clock path =
 -- results of the code, as an outcome
 abbrev pub resentOut : Resent → Outcome
 resentOut r = record { says = saidTally (r .answer); state = r .state; lent = [] }
-
--- what the code's walk finds: the expired numbers are those in flight below end
-pub record Expires (numbers sent marks : List ℕ) (next clock rto window : ℕ) (found : Expired) : Type 0 where
-  pub below : run (λ n. markedWith 2 marks (placeOf numbers n)) 0 (found .end) ≡ expiredIn numbers sent marks next clock rto window
-  pub counts : found .count ≡ length (expiredIn numbers sent marks next clock rto window)
-
--- a place in flight whose number is below end
-abbrev pub flyingBelow : List ℕ → List ℕ → ℕ → ℕ → Bool
-flyingBelow numbers marks end i = isFlying (marks ! i) && ltb (numbers ! i) end

@@ -18,8 +18,9 @@ ghost use Rattle.places.specs.Rules.{rules};
 ghost use Rattle.timer.specs.Timer.{sampledOf};
 ghost use Rattle.timer.specs.Window.{grownOf};
 ghost use Rattle.places.specs.Table.{oneIf};
-ghost use Rattle.sender.specs.Numbers.{Tidy, numbersAt, markedWith, Flags};
-ghost use Rattle.sender.specs.Acks.{acknowledged, ackedAt, acksRefusal, sampleOf, Measures, freedBy, ackedOf, acksLeave, ackedOut};
+ghost use Rattle.sender.specs.Numbers.{numbersAt, markedWith};
+ghost use Rattle.sender.specs.Steps.{Tidy, Flags, Measures};
+ghost use Rattle.sender.specs.Acks.{acknowledged, ackedAt, acksRefusal, sampleOf, freedBy, ackedOf, acksLeave, ackedOut};
 
 // 1 where a packet is acknowledged. The NACKs are searched only for a number in flight that ack-through reaches.
 fn acked_flag(number: u32, mark: u32, through: u32, nacks: &[u32]) -> u32

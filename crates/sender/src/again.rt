@@ -18,8 +18,9 @@ ghost use Rattle.terms.specs.Answers.{values};
 ghost use Rattle.receiver.specs.Answers.{said};
 ghost use Rattle.places.specs.Rules.{rules};
 ghost use Rattle.places.specs.Table.{_!_, isFlying, oneIf};
-ghost use Rattle.sender.specs.Numbers.{Tidy, markedWith, Flags};
-ghost use Rattle.sender.specs.Resend.{isDue, resendRefusal, Expires, flyingBelow, timedAt, resentBy, resendCount, resendLeaves, resentOut};
+ghost use Rattle.sender.specs.Numbers.{markedWith};
+ghost use Rattle.sender.specs.Steps.{Tidy, Flags, Expires, flyingBelow};
+ghost use Rattle.sender.specs.Resend.{isDue, resendRefusal, timedAt, resentBy, resendCount, resendLeaves, resentOut};
 
 // The longest run from the lowest in-flight number with age strictly above rto, at most window many.
 fn find_expired<'a>(

@@ -1,5 +1,5 @@
-// The sending half of a stream: what the host calls once packets are stored. Ports `packetize`, the sending loop of `poll`,
-// `handle_acks` and `resend`: explicit steps with the clock and the path as inputs.
+// The sending half of a stream: what the host calls once packets are stored. Ports the sending loop of `poll`, `handle_acks`
+// and `resend`: explicit steps with the clock and the path as inputs.
 mod acking;
 mod again;
 mod going;
@@ -29,7 +29,7 @@ pub struct Sent {
     pub state: Sender,
 }
 
-// What acks and resend answer: how many packets.
+// What submit, acks and resend answer: how many packets.
 pub enum Tally {
     Count(u32),
     Refused(Refusal),

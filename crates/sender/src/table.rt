@@ -5,7 +5,8 @@ ghost use lib.Dec.{eqb};
 ghost use lib.ListN.{length};
 ghost use Rattle.terms.specs.Ladder.{_when_else_};
 ghost use Rattle.terms.specs.Lists.{_atFrontOf_};
-ghost use Rattle.sender.specs.Numbers.{Tidy, numbersAt, markedWith, atRank, offsetOf, bytesAt, clockWrong, replaced};
+ghost use Rattle.sender.specs.Steps.{Tidy, atRank};
+ghost use Rattle.sender.specs.Numbers.{numbersAt, markedWith, offsetOf, bytesAt, clockWrong, replaced};
 
 // The number at a rank of those that bear the mark, the lowest first; 4,294,967,295 where there is none.
 pub(super) fn ranked<'a>(

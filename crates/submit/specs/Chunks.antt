@@ -49,7 +49,7 @@ pub record Stored : Type 0 where
   pub state : Sender
   pub store : List ℕ
 
--- so many chunks, each in the place of the packet that `packet` makes of a number and a chunk: the first chunk first
+-- so many chunks, the first first, each stored as the packet that `packet` makes of its number and the chunk
 unfoldable pub storedBy : (ℕ → List ℕ → List ℕ) → ℕ → List ℕ → Sender → List ℕ → Stored
 storedBy packet zero bytes s store = record { state = s; store = store }
 storedBy packet (suc left) bytes s store =

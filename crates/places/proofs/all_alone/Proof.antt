@@ -3,7 +3,7 @@ use Prim.Native.Nat.{_-_, _≤_}
 use mathlib.Core.Path.{_≡_, sym}
 use native.Mathlib.Omega.{arith}
 use lib.ListN.{length}
-use Rattle.places.specs.Table.{every, aloneAt}
+use Rattle.places.specs.Steps.{every, aloneAt}
 use Rattle.places.proofs.Folds.{every-none, every-turn, every-last}
 use borrow.Author.Needs.{needs}
 use Rattle.places.proofs.all_alone.Statement.{statement}

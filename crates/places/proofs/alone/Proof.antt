@@ -2,7 +2,7 @@
 use mathlib.Core.Path.{_∙_}
 use native.Mathlib.Nat.{sub-zero}
 use borrow.Author.Tests.{eq-eqb, ne-eqb}
-use Rattle.places.specs.Table.{aloneAt}
+use Rattle.places.specs.Steps.{aloneAt}
 use borrow.Author.Needs.{needs}
 use Rattle.places.proofs.alone.Statement.{statement}
 use Rattle.places.proofs.alone.Tie as tie

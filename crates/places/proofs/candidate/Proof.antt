@@ -1,6 +1,6 @@
 -- `places::candidate` meets its contract: the tests that led to each return are the rungs of the definition. Assumes nothing.
 use borrow.Author.Tests.{eq-eqb, ne-eqb, lt-ltb, le-ltb}
-use Rattle.places.specs.Table.{candidateOf}
+use Rattle.places.specs.Steps.{candidateOf}
 use Rattle.places.proofs.candidate.Statement.{statement}
 use Rattle.places.proofs.candidate.Tie as tie
 

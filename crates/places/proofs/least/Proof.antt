@@ -3,7 +3,7 @@ use Prim.Native.Nat.{_-_, _≤_}
 use mathlib.Core.Path.{_≡_, _∙_, ap}
 use native.Mathlib.Omega.{arith}
 use denote.Ref.{now}
-use Rattle.places.specs.Table.{leastOf}
+use Rattle.places.specs.Steps.{leastOf}
 use Rattle.places.proofs.Folds.{least-none, least-more}
 use borrow.Author.Needs.{needs}
 use Rattle.places.proofs.least.Statement.{statement}

@@ -1,6 +1,6 @@
 -- `places::place_holds` meets its contract: the tests that led to each return are the rungs of the definition. Assumes nothing.
 use borrow.Author.Tests.{eq-eqb, ne-eqb, lt-ltb, le-ltb, le-leb, lt-leb}
-use Rattle.places.specs.Rules.{placeHolds}
+use Rattle.places.specs.Steps.{placeHolds}
 use borrow.Author.Needs.{needs}
 use Rattle.places.proofs.place_holds.Statement.{statement}
 use Rattle.places.proofs.place_holds.Tie as tie

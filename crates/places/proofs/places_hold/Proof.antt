@@ -2,8 +2,7 @@
 use Prim.Native.Nat.{_-_, _≤_}
 use mathlib.Core.Path.{_≡_}
 use native.Mathlib.Omega.{arith}
-use Rattle.places.specs.Table.{every}
-use Rattle.places.specs.Rules.{placeAt}
+use Rattle.places.specs.Steps.{every, placeAt}
 use Rattle.places.proofs.Folds.{every-none, every-turn, every-last}
 use borrow.Author.Needs.{needs}
 use Rattle.places.proofs.places_hold.Statement.{statement}

@@ -1,7 +1,7 @@
 -- `sender::again::below_flags` meets its contract: after i turns the first i places are flagged. Assumes nothing.
 use Prim.Native.Nat.{_-_}
 use mathlib.Core.Path.{refl}
-use Rattle.sender.specs.Resend.{flyingBelow}
+use Rattle.sender.specs.Steps.{flyingBelow}
 use Rattle.sender.proofs.Tables.{Flagging, flag-start, flag-more, flag-end}
 use borrow.Author.Needs.{needs}
 use Rattle.sender.proofs.again.below_flags.Statement.{statement}

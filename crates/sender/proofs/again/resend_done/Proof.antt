@@ -8,8 +8,9 @@ use Rattle.timer.specs.Timer.{rtoOf}
 use Rattle.timer.proofs.Laws.{rto-most}
 use Rattle.places.specs.declared.Timer.the-variants as T
 use Rattle.places.proofs.Facts.{ruled}
-use Rattle.sender.specs.Numbers.{inFlight, markedWith, Tidy}
-use Rattle.sender.specs.Resend.{timedAt, Expires, expiredOf}
+use Rattle.sender.specs.Numbers.{inFlight, markedWith}
+use Rattle.sender.specs.Steps.{Tidy, Expires}
+use Rattle.sender.specs.Resend.{timedAt, expiredOf}
 use Rattle.sender.proofs.Outcomes.{rank-missing, rank-inside, tidy}
 use Rattle.sender.proofs.Resending.{left-idle, left-pathless, left-young, left-again, again-same}
 use borrow.Author.Needs.{needs}
