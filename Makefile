@@ -3,6 +3,8 @@ SEED ?= 1
 SOAK_COUNT ?= 5000000
 
 .PHONY: demo test links compare soak host
+# All goals work in one target/.
+.NOTPARALLEL:
 
 # The story of the lamps: the same packets, given to our receiver and to the Rust's.
 demo:
@@ -29,6 +31,8 @@ compare:
 	@oracle/compare.sh write $(SEED) 120000
 	@oracle/compare.sh receive $(SEED) 20000
 	@oracle/compare.sh 'receive slips'
+	@target/oracle/oracle lamps | sed -n 's/^\(packet [^:]*\):.*/\1/p' >target/oracle/lamps
+	@sed -n 's/^\(packet [^:]*\):.*/\1/p' crates/lamps/stdout | diff - target/oracle/lamps
 	@oracle/compare.sh ack $(SEED) 20000
 	@oracle/compare.sh timer $(SEED) 1000260
 	@oracle/compare.sh sender $(SEED) 20000
