@@ -39,6 +39,7 @@ compare:
 	@oracle/compare.sh model $(SEED) 50000
 	@target/oracle/oracle model answer <crates/drive/stdin | diff - crates/drive/stdout
 	@echo "crates/drive/stdout: the model's answers"
+	@oracle/cuts.sh
 
 # Longer: rounds of whole runs and of hostile calls with seeds of their own, until SOAK_COUNT calls were compared.
 soak:

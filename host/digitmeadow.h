@@ -6,6 +6,10 @@
  * What the host owes, since C cannot check it: a pointer is to as many bytes as the length after it says, and to one struct where none
  * does; it may be anything but null where the length is 0; what a call may change overlaps nothing else that the call is lent.
  *
+ * Calls on different states and buffers may run at once, two on one state may not. It needs memcpy and memset. SYNCHRONIZE, CLOSE, RESET and
+ * NO ACK are only reported: what they mean is the host's. A plain acknowledgement has the number 0, which accept refuses with 13. This header
+ * is for C11, compiled by GCC or Clang.
+ *
  * A refusal is a number, 1 to 25, from document 01's table, and 0 is none. A refused call changes nothing that it was lent. */
 #ifndef DIGITMEADOW_H
 #define DIGITMEADOW_H
