@@ -3,6 +3,8 @@ SEED ?= 1
 SOAK_COUNT ?= 5000000
 
 .PHONY: demo test links compare soak host
+# All goals work in one target/.
+.NOTPARALLEL:
 
 # The story of the lamps: the same packets, given to our receiver and to the Rust's.
 demo:
@@ -29,12 +31,15 @@ compare:
 	@oracle/compare.sh write $(SEED) 120000
 	@oracle/compare.sh receive $(SEED) 20000
 	@oracle/compare.sh 'receive slips'
+	@target/oracle/oracle lamps | sed -n 's/^\(packet [^:]*\):.*/\1/p' >target/oracle/lamps
+	@sed -n 's/^\(packet [^:]*\):.*/\1/p' crates/lamps/stdout | diff - target/oracle/lamps
 	@oracle/compare.sh ack $(SEED) 20000
 	@oracle/compare.sh timer $(SEED) 1000260
 	@oracle/compare.sh sender $(SEED) 20000
 	@oracle/compare.sh model $(SEED) 50000
 	@target/oracle/oracle model answer <crates/drive/stdin | diff - crates/drive/stdout
 	@echo "crates/drive/stdout: the model's answers"
+	@oracle/cuts.sh
 
 # Longer: rounds of whole runs and of hostile calls with seeds of their own, until SOAK_COUNT calls were compared.
 soak:

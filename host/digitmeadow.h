@@ -6,7 +6,11 @@
  * What the host owes, since C cannot check it: a pointer is to as many bytes as the length after it says, and to one struct where none
  * does; it may be anything but null where the length is 0; what a call may change overlaps nothing else that the call is lent.
  *
- * A refusal is a number, 1 to 25, from document 01's table, and 0 is none. A refused call changes nothing that it was lent, but for start. */
+ * Calls on different states and buffers may run at once, two on one state may not. It needs memcpy and memset. SYNCHRONIZE, CLOSE, RESET and
+ * NO ACK are only reported: what they mean is the host's. A plain acknowledgement has the number 0, which accept refuses with 13. This header
+ * is for C11, compiled by GCC or Clang.
+ *
+ * A refusal is a number, 1 to 25, from document 01's table, and 0 is none. A refused call changes nothing that it was lent. */
 #ifndef DIGITMEADOW_H
 #define DIGITMEADOW_H
 
@@ -63,8 +67,8 @@ _Static_assert(sizeof(struct digitmeadow_fields) == 104, "a packet's fields are 
 struct digitmeadow_fields digitmeadow_read(const digitmeadow_u8 *packet, digitmeadow_size length);
 
 /* Starts a receiver after the number s, with slots of slot bytes: next is s + 1. Gives 0, or 10 where the slot size or the store's
- * length is wrong, or 12 where s is 4,294,967,295. The store is only measured, and what the state held before does not matter; a refused
- * start leaves one that every later call refuses with 11: of all refused calls, only this one writes. */
+ * length is wrong, or 12 where s is 4,294,967,295. The store is only measured. The state is lent as 1,036 bytes, whatever they hold; a
+ * refused start leaves them as they were. */
 digitmeadow_u32 digitmeadow_start(
     struct digitmeadow_receiver *r, digitmeadow_u32 s, digitmeadow_u32 slot, const digitmeadow_u8 *store, digitmeadow_size store_length);
 

@@ -51,7 +51,7 @@ static void take_ready(void) {
     u32 number = lamp.next;
     struct digitmeadow_counted c = digitmeadow_take(&lamp, store, STORE, shown + filled, IMAGE - filled);
     if (c.refusal != 0) {
-        printf(": held, waiting for %u\n", number);
+        printf(c.refusal == 17 ? ": held, waiting for %u\n" : ": %u is not taken, the image is full\n", number);
         return;
     }
     for (const char *word = ": taken "; c.refusal == 0; word = ", ") {

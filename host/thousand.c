@@ -1,5 +1,5 @@
 /* A thousand packets through one receiver, changed in place where it lies: the packets of the proved program crates/thousand, which
- * gives them to the calls by value, so that its lines are to be the same. */
+ * gives them to the calls in place and by value; its first three lines are to be the same. */
 #include "digitmeadow.h"
 
 int printf(const char *format, ...);

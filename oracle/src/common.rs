@@ -159,7 +159,8 @@ impl Answers {
 /// What the comparison of one case came to.
 pub enum Verdict {
     Equal,
-    /// A difference of NOTES.md, by its name there: both sides answered exactly as it says.
+    /// A difference of NOTES.md, by its name there: ours answered exactly as it says; NOTES.md says where
+    /// the Rust's half is checked too.
     Listed(&'static str),
     Unlisted(String),
 }

@@ -19,7 +19,7 @@ struct Slip {
     steps: &'static [(Step, &'static str, &'static str)],
 }
 
-const SLIPS: [Slip; 7] = [
+const SLIPS: [Slip; 8] = [
     Slip {
         name: "an empty packet in a gap is not kept: draining stops there, and a later packet overtakes",
         s: 0,
@@ -86,6 +86,11 @@ const SLIPS: [Slip; 7] = [
         name: "the last number is accepted, after which the next sum leaves 32 bits",
         s: 4_294_967_294,
         steps: &[(Accept(4_294_967_295, "A"), "highest 4294967295, missing 0, kept 0", "refused 12")],
+    },
+    Slip {
+        name: "a payload of any length is held, as there are no slots",
+        s: 0,
+        steps: &[(Accept(1, "AB"), "highest 1, missing 0, kept 0", "refused 16")],
     },
 ];
 

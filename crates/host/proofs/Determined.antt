@@ -13,7 +13,7 @@ use Rattle.receiver.specs.declared.Receiver.{Receiver}
 use Rattle.ack.specs.Acknowledge.{acknowledgeOf}
 use Rattle.host.specs.declared.Counted.{Counted}
 use Rattle.host.specs.declared.Fields.{Fields}
-use Rattle.host.specs.Numbers.{Hosted, hosted, begun, answered, counted, HostedAck, hostedAck, wrote}
+use Rattle.host.specs.Numbers.{Hosted, hosted, hostedStart, begun, answered, counted, HostedAck, hostedAck, wrote}
 use Rattle.host.specs.Fields.{fieldsOf}
 
 pub digitmeadow-read-determined : (packet : List ℕ) (a b : Fields) → a ≡ fieldsOf (readOf packet) → b ≡ fieldsOf (readOf packet) → a ≡ b
@@ -34,9 +34,9 @@ module _ (s t : Receiver) (x y : List ℕ) where
       let e = determined p q in
       (ap (λ (o : Hosted). o .answer) e, ap (λ (o : Hosted). o .state) e, ap (λ (o : Hosted). o .lent) e)
 
-pub digitmeadow-start-determined : (n : SeqNo) (slot storeLength : ℕ) (a b : ℕ) (s t : Receiver)
-    → begun a s ≡ hosted (startOf n slot storeLength) → begun b t ≡ hosted (startOf n slot storeLength) → (a ≡ b) × (s ≡ t)
-digitmeadow-start-determined n slot storeLength a b s t p q =
+pub digitmeadow-start-determined : (r : Receiver) (n : SeqNo) (slot storeLength : ℕ) (a b : ℕ) (s t : Receiver)
+    → begun a s ≡ hostedStart r (startOf n slot storeLength) → begun b t ≡ hostedStart r (startOf n slot storeLength) → (a ≡ b) × (s ≡ t)
+digitmeadow-start-determined r n slot storeLength a b s t p q =
     let e = determined p q in
     (ap (λ (o : Hosted). o .answer .refusal) e, ap (λ (o : Hosted). o .state) e)
 

@@ -1,7 +1,7 @@
 -- What the exported calls give a host, which knows numbers and no enum: the refusal's number, or 0 and how many bytes.
 use Prim.Native.Nat.{ℕ}
 use mathlib.Core.List.{List, [], _∷_}
-use Rattle.terms.specs.Answers.{Said, refusal, values}
+use Rattle.terms.specs.Answers.{Said, refusal, values, _unlessRefused_else_}
 use Rattle.receiver.specs.Answers.{Outcome}
 use Rattle.receiver.specs.declared.Receiver.{Receiver}
 use Rattle.ack.specs.Acknowledge.{Acknowledges}
@@ -29,7 +29,11 @@ hosted o = record { answer = inNumbers (o .says); state = o .state; lent = o .le
 abbrev pub answered : ℕ → Receiver → List ℕ → Hosted
 answered number state lent = record { answer = record { refusal = number; count = 0 }; state = state; lent = lent }
 
--- a start is lent nothing to change
+-- the outcome of a start, which is lent a state: where it is refused, that state stays as it was
+abbrev pub hostedStart : Receiver → Outcome → Hosted
+hostedStart before o = record { answer = inNumbers (o .says); state = o .state unlessRefused o .says else before; lent = [] }
+
+-- a start is lent no byte to change beside the state
 abbrev pub begun : ℕ → Receiver → Hosted
 begun number state = answered number state []
 

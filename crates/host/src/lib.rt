@@ -2,14 +2,13 @@
 // place. Refusals are document 01's numbers, and 0 is none; a slice is a pointer and a length. The header is host/digitmeadow.h.
 ghost use mathlib.Core.Path.{_≡_};
 ghost use lib.ListN.{length};
-ghost use mathlib.Core.List.{[]};
 ghost use Rattle.packet.specs.Reading.{readOf, nothing, answered as readAs};
 ghost use Rattle.receiver.specs.Answers.{said, saidOf};
 ghost use Rattle.receiver.specs.Start.{startOf};
 ghost use Rattle.receiver.specs.Accept.{acceptOf};
 ghost use Rattle.receiver.specs.Take.{takeOf};
 ghost use Rattle.ack.specs.Acknowledge.{said as ackSaid, acknowledgeOf};
-ghost use Rattle.host.specs.Numbers.{inNumbers, hosted, begun, answered, counted, hostedAck, wrote};
+ghost use Rattle.host.specs.Numbers.{inNumbers, hosted, hostedStart, begun, answered, counted, hostedAck, wrote};
 ghost use Rattle.host.specs.Fields.{partOf, fieldsOf};
 use ack::Acknowledged;
 use packet::Packet;
@@ -169,26 +168,32 @@ pub struct Begun {
     pub state: Receiver,
 }
 
-fn begin(s: u32, slot: u32, store: &[u8]) -> Begun
-    ensures { λ b. ⌜ begun (b .refusal) (b .state) ≡ hosted (startOf (record { 0 = s }) slot (length (now (store .entry)))) ⌝ }
+// The state that is started, or where the start is refused the one that was given.
+fn begin(r: Receiver, s: u32, slot: u32, store: &[u8]) -> Begun
+    ensures { λ b. ⌜ begun (b .refusal) (b .state) ≡ hostedStart r (startOf (record { 0 = s }) slot (length (now (store .entry)))) ⌝ }
 {
     let after = SeqNo(s);
     let started = receiver::start(after, slot, store);
     let answer = started.answer;
     let state = started.state;
-    Begun {
-        refusal: of_answer(answer),
-        state: state,
+    match answer {
+        Answer::Done => Begun {
+            refusal: 0,
+            state: state,
+        },
+        Answer::Refused(why) => Begun {
+            refusal: why.number(),
+            state: r,
+        },
     }
 }
 
-// Starts a receiver after the number s: `receiver::start`, into the state that is lent. A refused start leaves one that every later
-// call refuses with 11.
+// Starts a receiver after the number s: `receiver::start`, into the state that is lent, which a refused start leaves as it was.
 #[no_mangle]
 pub extern "C" fn digitmeadow_start(r: &mut Receiver, s: u32, slot: u32, store: &[u8]) -> u32
-    ensures { λ c. ⌜ begun c (now (r .exit)) ≡ hosted (startOf (record { 0 = s }) slot (length (now (store .entry)))) ⌝ }
+    ensures { λ c. ⌜ begun c (now (r .exit)) ≡ hostedStart (now (r .entry)) (startOf (record { 0 = s }) slot (length (now (store .entry)))) ⌝ }
 {
-    let b = begin(s, slot, store);
+    let b = begin(*r, s, slot, store);
     *r = b.state;
     b.refusal
 }

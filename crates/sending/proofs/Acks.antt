@@ -12,6 +12,7 @@ use Rattle.terms.specs.Ladder.{_when_else_}
 use Rattle.terms.specs.Answers.{refusal, values}
 use Rattle.terms.proofs.Laws.{past}
 use Rattle.receiver.proofs.Laws.{by-said}
+use Rattle.ack.specs.Missing.{ascending}
 use Rattle.places.specs.Table.{isFlying, placeOf}
 use Rattle.places.specs.Rules.{rules, countsFit}
 use Rattle.places.specs.Start.{Outcome}
@@ -22,7 +23,7 @@ use Rattle.sender.specs.Resend.{isIn}
 use Rattle.sender.proofs.Outcomes.{clock-fair}
 use Rattle.sending.specs.Meaning.{markOf, standing, doesFly, Sound}
 use Rattle.sending.specs.Steps.{isFair, isNamed, ackedAs}
-use Rattle.sending.proofs.Counts.{by-bool, fair-rung, run-has}
+use Rattle.sending.proofs.Counts.{by-bool, fair-rung, run-has, run-ascending}
 use Rattle.sending.proofs.Stands.{facts, marked-is, flies-told, counts-fit}
 use Rattle.sending.proofs.Moves.{later-fits}
 use Rattle.sending.proofs.Frees.{timed-fits, grown-fits, freed-sound, freed-means}
@@ -45,6 +46,10 @@ acked-is s store sound through nacks n =
       none : (a c : Bool) → (a && false) ≡ ((a && false) && c)
       none true c = refl
       none false c = refl
+
+-- ascending, so that each of them counts once
+pub acked-ascending : (s : Sender) (through : ℕ) (nacks : List ℕ) → ascending (ackedOf s through nacks) ≡ true
+acked-ascending s through nacks = run-ascending (λ n. ackedAt (s .numbers) (s .marks) through nacks (placeOf (s .numbers) n)) (s .next .0) 0
 
 -- what acks that are done change
 pub record Acknowledges (s : Sender) (through : ℕ) (nacks : List ℕ) (clock : ℕ) (store given : List ℕ) : Type 0 where

@@ -1,11 +1,11 @@
 -- Packets that fly get a new time, and nothing else of the table changes: the state stays sound, and each packet keeps its bytes. Assumes nothing.
-use Prim.Native.Nat.{ℕ, zero, suc, _-_, _≤_, _<_}
+use Prim.Native.Nat.{ℕ, zero, suc, _≤_, _<_}
 use mathlib.Core.Path.{_≡_, refl, sym, _∙_, ap}
 use mathlib.Core.Bool.{Bool, and-false, true, false, true≢false}
 use mathlib.Core.List.{List, [], _∷_}
 use native.Mathlib.Decide.{ℕ-discrete, decLe}
 use native.Mathlib.Omega.{arith}
-use borrow.Author.Tests.{ltb-true, le-leb, lt-leb, ne-eqb, eqb-true}
+use borrow.Author.Tests.{le-leb, lt-leb, ne-eqb, eqb-true}
 use lib.Dec.{ltb}
 use lib.ListN.{length, take}
 use Rattle.terms.specs.Lists.{all}
@@ -20,7 +20,7 @@ use Rattle.places.proofs.Facts.{Ruled, rules-of}
 use Rattle.sender.specs.Numbers.{inFlight, replaced}
 use Rattle.sender.specs.Resend.{runWhile, aged, expiredOf, isEmpty, isIn}
 use Rattle.sender.proofs.Tables.{replaced-at}
-use Rattle.sending.specs.Meaning.{Standing, unmade, waits, flies, gone, markOf, sentOf, standing, doesFly, Sound}
+use Rattle.sending.specs.Meaning.{Standing, unmade, waits, flies, gone, markOf, standing, doesFly, Sound}
 use Rattle.sending.specs.Steps.{goesAgain, resentAs}
 use Rattle.sending.proofs.Counts.{by-bool, none-in}
 use Rattle.sending.proofs.Stands.{in-flight-is, facts, own-place, marked-in, marked-is, flies-told}
@@ -32,7 +32,7 @@ module _ (q : ℕ → Bool) where
   all-take (suc k) [] t = refl
   all-take (suc k) (x ∷ l) t = and-both (q x) (all q (take k l)) (and-left (q x) (all q l) t) (all-take k l (and-right (q x) (all q l) t))
 
-  all-while : (p : ℕ → Bool) (l : List ℕ) → all q l ≡ true → all q (runWhile p l) ≡ true
+  pub all-while : (p : ℕ → Bool) (l : List ℕ) → all q l ≡ true → all q (runWhile p l) ≡ true
   all-while p [] t = refl
   all-while p (x ∷ l) t =
       by-bool (p x)
@@ -56,20 +56,6 @@ none-again p f clock n gone = refl
 pub expired-flies : (s : Sender) (store : List ℕ) (clock n : ℕ) → isIn (expiredOf s clock) n ≡ true → doesFly (standing s store n) ≡ true
 expired-flies s store clock n t =
     sym (in-flight-is s store n) ∙ in-front (aged (s .numbers) (s .sent) clock (rtoOf (s .timing))) (s .window) n (inFlight s) t
-
--- the age of each is above RTO
-passing : (p q : ℕ → Bool) → ((x : ℕ) → p x ≡ true → q x ≡ true) → (l : List ℕ) → all q (runWhile p l) ≡ true
-passing p q f [] = refl
-passing p q f (x ∷ l) = by-bool (p x) (λ t. rw t (and-both (q x) (all q (runWhile p l)) (f x t) (passing p q f l))) (λ e. rw e)
-
-pub expired-old : (s : Sender) (clock n : ℕ) → isIn (expiredOf s clock) n ≡ true → rtoOf (s .timing) < clock - sentOf s n
-expired-old s clock n t =
-    let old = aged (s .numbers) (s .sent) clock (rtoOf (s .timing)) in
-    ltb-true _ _
-    (by-bool (old n) (λ e. e)
-    (λ f.
-    absurd (true≢false (sym t ∙ rw (all-take (differs n) (s .window) (runWhile old (inFlight s))
-    (passing old (differs n) (λ x e. rw (ne-eqb x n (λ q. true≢false (sym e ∙ ap old q ∙ f)))) (inFlight s)))))))
 
 -- and where nothing flies, none goes again
 pub idle-none : (s : Sender) (clock : ℕ) (path : Bool) → isEmpty (inFlight s) ≡ true → (n : ℕ) → goesAgain s clock path n ≡ false

@@ -10,8 +10,10 @@ use borrow.Author.Tests.{leb-true, eq-eqb, ne-eqb, lt-ltb, le-ltb}
 use lib.Dec.{ltb, eqb}
 use lib.ListN.{length, set}
 use Rattle.terms.specs.Ladder.{_when_else_}
-use Rattle.terms.proofs.Laws.{case, rung}
+use Rattle.terms.specs.Lists.{all}
+use Rattle.terms.proofs.Laws.{case, rung, and-both}
 use Rattle.terms.specs.Answers.{Said, refusal}
+use Rattle.ack.specs.Missing.{ascending}
 use Rattle.places.specs.Table.{_!_, countOf, placeOf}
 use Rattle.sender.specs.Numbers.{run, numbersAt, markedWith, replaced}
 use Rattle.sender.specs.Resend.{isEmpty, isIn}
@@ -47,6 +49,11 @@ none-in (x ∷ l) t n = absurd (not-suc-le-zero (leb-true (length (x ∷ l)) 0 t
 -- tests that agree have the same run, and one that passes at one number more has one more in it
 pub run-same : (p q : ℕ → Bool) → ((n : ℕ) → p n ≡ q n) → (from count : ℕ) → run p from count ≡ run q from count
 run-same p q f from count = ap (λ (t : ℕ → Bool). run t from count) (λ k n. f n k)
+
+pub run-within : (p q : ℕ → Bool) (count from : ℕ) → ((n : ℕ) → from ≤ n → n < from + count → p n ≡ q n) → run p from count ≡ run q from count
+unfolding run
+run-within p q zero from f = refl
+run-within p q (suc count) from f = rw (f from (omega arith) (omega arith), run-within p q count (suc from) (λ n a b. f n (omega arith) (omega arith)))
 
 module _ (p q : ℕ → Bool) (x : ℕ) (others : (n : ℕ) → (n ≡ x → ⊥) → p n ≡ q n) where
   after : (count from : ℕ) → x < from → run p from count ≡ run q from count
@@ -135,3 +142,18 @@ run-lowest p n t (suc count) from a b =
     (λ (q : from ≡ n). absurd (true≢false (sym t ∙ ap p (sym q) ∙ e)))
     (λ (o : from ≡ n → ⊥). rw e (run-lowest p n t count (suc from) (omega (arith, o)) (omega arith)))
     (ℕ-discrete from n))
+
+-- a run ascends
+run-above : (p : ℕ → Bool) (bound count from : ℕ) → bound < from → all (ltb bound) (run p from count) ≡ true
+unfolding run
+run-above p bound zero from h = refl
+run-above p bound (suc count) from h =
+    let rest = run-above p bound count (suc from) (omega arith) in
+    by-bool (p from) (λ t. rw t (and-both (ltb bound from) _ (lt-ltb bound from h) rest)) (λ f. rw f rest)
+
+pub run-ascending : (p : ℕ → Bool) (count from : ℕ) → ascending (run p from count) ≡ true
+unfolding run
+run-ascending p zero from = refl
+run-ascending p (suc count) from =
+    let rest = run-ascending p count (suc from) in
+    by-bool (p from) (λ t. rw t (and-both (all (ltb from) (run p (suc from) count)) _ (run-above p from count (suc from) (omega arith)) rest)) (λ f. rw f rest)

@@ -1,12 +1,13 @@
 -- How many numbers bear a mark (Counts), where a number stands (Stands), a table with one place moved in flight (Moves), with places freed (Frees) and
--- with other times (Again); the chunks, one packet more and a row of packets (Submitting..); what others cite: the laws of the calls (Starts, Submitting,
--- SubmittingReads, Sends, Acks, Resends, Fetches) and of every run (Remembering, by what may become of a standing, Lives, and by one call after
--- another, Goes).
+-- with other times (Again); the chunks, one packet more and a row of packets (Submitting..); what others cite: which numbers expire (Expired), the laws
+-- of the calls (Starts, Submitting, SubmittingReads, Sends, Acks, Resends, Fetches) and of every run (Remembering, by what may become of a standing,
+-- Lives, and by one call after another, Goes).
 pub mod Counts
 pub mod Stands
 pub mod Moves
 pub mod Frees
 pub mod Again
+pub mod Expired
 pub mod Starts
 pub mod SubmittingTables
 pub mod SubmittingRules

@@ -1,12 +1,11 @@
 -- What is promised of every run of a sender: its state stays one that the rules allow, and of what was submitted nothing is forgotten but what
--- acks named.
+-- acks named after it was sent.
 use Prim.Native.Nat.{ℕ, _+_, _-_, _≤_, _<_}
 use mathlib.Core.Path.{_≡_}
 use mathlib.Core.Bool.{Bool, true, false, _&&_, _||_, not}
 use mathlib.Core.List.{List, [], _∷_}
-use mathlib.Core.Logic.{_⊎_}
 use mathlib.Core.Option.{Option, none, some, orElse}
-use lib.Dec.{leb, ltb}
+use lib.Dec.{leb, ltb, eqb}
 use lib.ListN.{length, getD}
 use Rattle.terms.specs.Ladder.{_when_else_}
 use Rattle.terms.specs.Answers.{Said, refusal, values}
@@ -14,7 +13,7 @@ use Rattle.receiver.specs.Rules.{rulesOf, slotFits}
 use Rattle.receiver.specs.declared.Receiver.{Receiver}
 use Rattle.places.specs.Table.{_unless_}
 use Rattle.submit.specs.Chunks.{dataPacket}
-use Rattle.sending.specs.Meaning.{Standing, unmade, gone, packetIn, standing, Sound}
+use Rattle.sending.specs.Meaning.{Standing, unmade, waits, gone, packetIn, doesFly, standing, Sound}
 use Rattle.sending.specs.Steps.{isFair, isNamed, chunkAt}
 use Rattle.sending.specs.Runs.{Call, submit, send, acks, resend, fetch, Event, Run, historyOf, endOf}
 
@@ -48,6 +47,19 @@ abbrev pub madeIn : ℕ → ℕ → List Event → Option (List ℕ)
 madeIn chunk n [] = none
 madeIn chunk n (e ∷ rest) = orElse (madeBy chunk n (e .asked) (e .next) (e .answered)) (madeIn chunk n rest)
 
+-- a send that was done told a number
+abbrev pub sentBy : ℕ → Call → Said → Bool
+sentBy n (send clock output) (values given) = eqb n (getD given 0 0)
+sentBy n (send clock output) (refusal why) = false
+sentBy n (submit r to from bytes) says = false
+sentBy n (acks through nacks clock) says = false
+sentBy n (resend clock path) says = false
+sentBy n (fetch rank output) says = false
+
+abbrev pub sentIn : ℕ → List Event → Bool
+sentIn n [] = false
+sentIn n (e ∷ rest) = sentBy n (e .asked) (e .answered) || sentIn n rest
+
 -- acks that were done named a number
 abbrev pub namedBy : ℕ → Call → Said → Bool
 namedBy n (acks through nacks clock) (values given) = isNamed through nacks n
@@ -60,6 +72,11 @@ namedBy n (fetch rank output) says = false
 abbrev pub namedIn : ℕ → List Event → Bool
 namedIn n [] = false
 namedIn n (e ∷ rest) = namedBy n (e .asked) (e .answered) || namedIn n rest
+
+-- a send told it, and acks that came later named it; acks that came before do not count
+abbrev pub ackedIn : ℕ → List Event → Bool
+ackedIn n [] = false
+ackedIn n (e ∷ rest) = namedIn n rest when sentBy n (e .asked) (e .answered) else ackedIn n rest
 
 -- the packet made under a number in a run, and the number's standing at its end
 abbrev pub made : Run → ℕ → Option (List ℕ)
@@ -79,8 +96,15 @@ pub record Remembers (run : Run) : Type 0 where
   -- the numbers that were made are those from the first one up to next
   pub made-range : (n : ℕ) (packet : List ℕ) → made run n ≡ some packet → (run .first .0 ≤ n) × (n < endOf run .state .next .0)
   pub unmade-is : (n : ℕ) → run .first .0 ≤ n → made run n ≡ none → standingOf run n ≡ unmade
-  -- what was made still waits or flies as it was made, or is gone and was named by acks
-  pub kept : (n : ℕ) (packet : List ℕ) → made run n ≡ some packet → (packetIn (standingOf run n) ≡ some packet) ⊎ ((standingOf run n ≡ gone) × (namedIn n (historyOf run) ≡ true))
+  -- what was made waits as it was made until a send tells it,
+  pub waits-until-sent : (n : ℕ) (packet : List ℕ) → made run n ≡ some packet → sentIn n (historyOf run) ≡ false → standingOf run n ≡ waits packet
+  -- then flies as it was made until acks that come later name it,
+  pub flies-until-acked : (n : ℕ) (packet : List ℕ) → made run n ≡ some packet → sentIn n (historyOf run) ≡ true → ackedIn n (historyOf run) ≡ false
+      → (packetIn (standingOf run n) ≡ some packet) × (doesFly (standingOf run n) ≡ true)
+  -- and then is gone
+  pub gone-when-acked : (n : ℕ) (packet : List ℕ) → made run n ≡ some packet → ackedIn n (historyOf run) ≡ true → standingOf run n ≡ gone
   -- and what waits or flies was made so
   pub as-made : (n : ℕ) (packet : List ℕ) → packetIn (standingOf run n) ≡ some packet → made run n ≡ some packet
+  -- a send tells no number that was not made
+  pub sent-made : (n : ℕ) → made run n ≡ none → sentIn n (historyOf run) ≡ false
   pub below-first : (n : ℕ) → n < run .first .0 → standingOf run n ≡ gone

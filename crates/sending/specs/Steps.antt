@@ -1,17 +1,19 @@
 -- What each call that is done makes of a number's standing. Proved of each call's definition (proofs/).
-use Prim.Native.Nat.{ℕ, zero, suc, _+_, _-_, _*_}
-use mathlib.Core.Bool.{Bool, true, _&&_, _||_, not}
+use Prim.Native.Nat.{ℕ, zero, suc, _+_, _-_, _*_, _<_}
+use mathlib.Core.Path.{_≡_}
+use mathlib.Core.Bool.{Bool, true, false, _&&_, _||_, not}
 use mathlib.Core.List.{List, [], _∷_}
 use lib.Dec.{leb, ltb, eqb}
-use lib.ListN.{take, drop}
+use lib.ListN.{length, take, drop}
 use Rattle.terms.specs.Ladder.{_when_else_}
 use Rattle.terms.specs.Lists.{all}
 use Rattle.terms.specs.Answers.{Said, refusal, values}
+use Rattle.timer.specs.Timer.{rtoOf}
 use Rattle.places.specs.Table.{differs, placeOf}
 use Rattle.places.specs.declared.Sender.{Sender}
-use Rattle.sender.specs.Numbers.{sizeOf, offsetOf}
+use Rattle.sender.specs.Numbers.{run, sizeOf, offsetOf}
 use Rattle.sender.specs.Resend.{expiredOf, isIn}
-use Rattle.sending.specs.Meaning.{Standing, unmade, waits, flies, gone}
+use Rattle.sending.specs.Meaning.{Standing, unmade, waits, flies, gone, standing, doesFly}
 
 -- an answer that blames neither the state's rules nor the sizes
 abbrev pub isFair : Said → Bool
@@ -35,6 +37,23 @@ ackedAs through nacks n (flies packet sent) = gone when isNamed through nacks n 
 ackedAs through nacks n unmade = unmade
 ackedAs through nacks n (waits packet) = waits packet
 ackedAs through nacks n gone = gone
+
+-- a number flies, with an age above RTO
+abbrev pub isOld : ℕ → ℕ → Standing → Bool
+isOld rto clock (flies packet sent) = ltb rto (clock - sent)
+isOld rto clock unmade = false
+isOld rto clock (waits packet) = false
+isOld rto clock gone = false
+
+-- the lower numbers that fly
+abbrev pub fliersBelow : Sender → List ℕ → ℕ → List ℕ
+fliersBelow s store n = run (λ m. doesFly (standing s store m)) 0 n
+
+-- a number is expired: it and every lower one that flies are old, and those that are lower are fewer than the window
+pub record IsExpired (s : Sender) (store : List ℕ) (clock n : ℕ) : Type 0 where
+  pub old : isOld (rtoOf (s .timing)) clock (standing s store n) ≡ true
+  pub lower-old : (m : ℕ) → m < n → doesFly (standing s store m) ≡ true → isOld (rtoOf (s .timing)) clock (standing s store m) ≡ true
+  pub few : length (fliersBelow s store n) < s .window
 
 -- the numbers that go out again: the expired, where a new path is given
 abbrev pub goesAgain : Sender → ℕ → Bool → ℕ → Bool

@@ -1,8 +1,9 @@
--- `host::begin` meets its contract: it gives what `receiver::start` says, in numbers. Assumes nothing.
+-- `host::begin` meets its contract: it gives what `receiver::start` says, in numbers, and where that is a refusal the state that was given. Assumes nothing.
+use Prim.Native.Nat.{ℕ}
 use mathlib.Core.Path.{_∙_, ap}
-use mathlib.Core.List.{[]}
-use Rattle.host.specs.Numbers.{hosted}
-use Rattle.host.proofs.Answers.{in-numbers}
+use Rattle.receiver.specs.declared.Answer.the-variants as A
+use Rattle.host.specs.Numbers.{begun}
+use Rattle.host.proofs.Answers.{known-start}
 use borrow.Author.Needs.{needs}
 use Rattle.host.proofs.begin.Statement.{statement}
 use Rattle.host.proofs.begin.Tie as tie
@@ -10,13 +11,25 @@ use Rattle.host.proofs.begin.Tie as tie
 start-requires : tie.Need-start-requires
 start-requires c κs = search needs
 
-of-answer-requires : tie.Need-of-answer-requires
-of-answer-requires c κs = search needs
+enum-told : tie.Need-enum-told
+enum-told c = search needs
+
+enum-known-answer : tie.Need-enum-known-answer
+enum-known-answer c = search needs
+
+number-requires : tie.Need-number-requires
+number-requires c κs = search needs
 
 returns : tie.Need-returns
 returns c =
-    let s = c .before .before .start in
-    (λ k. record { answer = in-numbers (s .result .answer) (c .of-answer .result) (c .of-answer .ensures) k; state = s .result .state; lent = [] }) ∙ ap hosted (s .ensures)
+    let b = c .before .before .before in
+    known-start (b .before .before .args .r) _ (b .start .result) A.Done (c .enum-told .given .1) (b .start .ensures)
+
+returns-2 : tie.Need-returns-2
+returns-2 c =
+    let b = c .before .before .before .before .before in
+    ap (λ (n : ℕ). begun n (b .before .before .args .r)) (c .number .ensures)
+    ∙ known-start (b .before .before .args .r) _ (b .start .result) (A.Refused _) (c .before .before .answer .given .1) (b .start .ensures)
 
 pub begin-spec : {M : Type 1} → statement M
-begin-spec = tie.close (tie.spec start-requires of-answer-requires returns)
+begin-spec = tie.close (tie.spec start-requires enum-told enum-known-answer number-requires returns returns-2)

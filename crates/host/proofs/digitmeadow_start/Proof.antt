@@ -1,4 +1,4 @@
--- `host::digitmeadow_start` meets its contract: a walk of its MIR, by hand. `begin` is called, and the borrow is opened and closed at the state that it gave.
+-- `host::digitmeadow_start` meets its contract: a walk of its MIR, by hand. The borrow is opened, the state is copied out, `begin` is called on the copy, and the borrow is closed at the state that it gave.
 -- All that the proof knows of `begin` is that it meets its contract. Assumes nothing.
 use mathlib.Core.Path.{_≡_, refl, ap}
 use Prim.Native.Nat.{ℕ, _<_, _^_}
@@ -18,7 +18,7 @@ use contract.Monad.{Fun, fact}
 use contract.Running.{givenOf, tables, tablesOf}
 use contract.Lifetimes.{AllOutlive}
 use types.Kit.{Given, ‵, raw, some, later, _⊛_, ⋆, _$_, _∵_, !, qed, by, move, keep, drop, use1, split, join, pick, rewrite, fsplit, fsplit3, fjoin, fjoin3, feqI, suffices, frame, await, done}
-use types.Run.{look, store-raw, init, forget, stop, hop, fld, from, load, of-opd, and-then, no-more, assigns, land, returns, enter, alloc1, alloc0, params1, pass1, pass0, free1, free0}
+use types.Run.{look, look-raw, store-raw, init, forget, stop, hop, fld, from, load, of-opd, and-then, no-more, assigns, land, returns, enter, alloc1, alloc0, params1, pass1, pass0, free1, free0}
 use types.Part.{whole, sub, look-in}
 use types.SemTy.{Body}
 use sound.WpLaws.{FmC, fmOf, WpFn-mono}
@@ -47,7 +47,7 @@ use Rattle.receiver.proofs.Receiver as T
 use Rattle.receiver.proofs.Receiver.Laws as T′
 use Rattle.inplace.proofs.State.{vals}
 use Rattle.host.specs.declared.Begun.{Begun}
-use Rattle.host.specs.Numbers.{hosted, begun}
+use Rattle.host.specs.Numbers.{hostedStart, begun}
 use Rattle.host.proofs.Begun as P
 use Rattle.host.proofs.Begun.Laws as P′
 use Rattle.host.proofs.begin as core
@@ -84,18 +84,25 @@ module _ {M : Type 1} (𝓤 : URA M) (H : Heap 𝓤) (A : Atoms 𝓤) (W : Given
   abbrev Post : Val → SProp 𝓤
   Post = walkOf 𝓤 H A f.ended stayed (f.clauses 𝓤 H A at-mem run) .post (((κ, (κ′, tt)), (q, (q′, tt)), bounds, x, at), tt)
 
-  -- what the callee's triple binds outside, and what it says
+  -- what the callee's triple binds outside: the state as it lies there, and the store at its own lifetime
+  abbrev given : Receiver × (ℕ × (ℕ × (RefT (List ℕ) × Unit {0})))
+  given = (h, (s, (slot, (store, tt))))
+
+  abbrev at-given : List Val × (List Val × (List Val × (List Val × Unit {0})))
+  at-given = (vals h, (vint w32 s ∷ [], (vint w32 slot ∷ [], (m ∷ [], tt))))
+
   abbrev to-core : Core 𝓤 H A at-mem run .Ghost
-  to-core = (((κ′, tt), (q′, tt), tt, (s, (slot, (store, tt))), (vint w32 s ∷ [], (vint w32 slot ∷ [], (m ∷ [], tt)))), tt)
+  to-core = (((κ′, tt), (q′, tt), tt, given, at-given), tt)
 
-  goes-core : ent 𝓤 (sep 𝓤 (sep 𝓤 (A .lft κ′ q′) (sem 𝓤 H A ftrue)) (sem 𝓤 H A (owns (u32 ∷ u32 ∷ ShrSlice (named 0) κ′ u8 ∷ []) (s, (slot, (store, tt))) (vint w32 s ∷ [], (vint w32 slot ∷ [], (m ∷ [], tt)))))) (Core 𝓤 H A at-mem run .pre to-core)
-  goes-core = qed W (((‵ (flft κ′ q′) ⊛ ‵ ftrue) ⊛ ‵ (owns (u32 ∷ u32 ∷ ShrSlice (named 0) κ′ u8 ∷ []) (s, (slot, (store, tt))) (vint w32 s ∷ [], (vint w32 slot ∷ [], (m ∷ [], tt))))) ∷ []) ∵ frame ! $ done !
+  goes-core : ent 𝓤 (sep 𝓤 (sep 𝓤 (A .lft κ′ q′) (sem 𝓤 H A ftrue)) (sem 𝓤 H A (owns (T.the-row ∷ u32 ∷ u32 ∷ ShrSlice (named 0) κ′ u8 ∷ []) given at-given))) (Core 𝓤 H A at-mem run .pre to-core)
+  goes-core = qed W (((‵ (flft κ′ q′) ⊛ ‵ ftrue) ⊛ ‵ (owns (T.the-row ∷ u32 ∷ u32 ∷ ShrSlice (named 0) κ′ u8 ∷ []) given at-given)) ∷ []) ∵ frame ! $ done !
 
+  -- what it says
   abbrev Said : Begun → Type 0
-  Said r = begun (r .refusal) (r .state) ≡ hosted (startOf (record { 0 = s }) slot (length (store .now)))
+  Said r = begun (r .refusal) (r .state) ≡ hostedStart h (startOf (record { 0 = s }) slot (length (store .now)))
 
-  core-of : (r : Begun) → ent 𝓤 (ensured 𝓤 H A core.ended (core.clauses 𝓤 H A at-mem run) (κ′, tt) (s, (slot, (store, tt))) tt r) (fact 𝓤 (Said r))
-  core-of r = exE 𝓤 _ (λ ws. snd∗ 𝓤 (sem 𝓤 H A (lasts core.ended (κ′, tt) (s, (slot, (store, tt))) ws)) (fact 𝓤 (Said r)))
+  core-of : (r : Begun) → ent 𝓤 (ensured 𝓤 H A core.ended (core.clauses 𝓤 H A at-mem run) (κ′, tt) given tt r) (fact 𝓤 (Said r))
+  core-of r = exE 𝓤 _ (λ ws. snd∗ 𝓤 (sem 𝓤 H A (lasts core.ended (κ′, tt) given ws)) (fact 𝓤 (Said r)))
 
   -- of a `Begun` that is had: what its fields are
   state-is : (r : Begun) (v : Val) → Is P.the-row r (v ∷ []) → Is T.the-row (r .state) (vals (r .state))
@@ -116,28 +123,30 @@ module _ {M : Type 1} (𝓤 : URA M) (H : Heap 𝓤) (A : Atoms 𝓤) (W : Given
     walk : ent 𝓤 (onEntry 𝓤 H A f.signature (κ, (κ′, tt)) (q, (q′, tt)) x at) (WpFn 𝓤 H C Λ code.function (vptr b o ∷ vint w32 s ∷ vint w32 slot ∷ m ∷ []) Post)
     walk =
         qed W ((‵ (flft κ q) ⊛ ‵ (flft κ′ q′) ⊛ ‵ ftrue) ∷ ‵ (owns (MutRef (named 0) κ T.the-row ∷ u32 ∷ u32 ∷ ShrSlice (named 1) κ′ u8 ∷ []) x at) ∷ []) ∵ enter ! C Λ code.function (vptr b o ∷ vint w32 s ∷ vint w32 slot ∷ m ∷ []) _ $
-        alloc1 ! (λ l₀. alloc1 ! (λ l₁. alloc1 ! (λ l₂. alloc1 ! (λ l₃. alloc1 ! (λ l₄. alloc1 ! (λ l₅. alloc0 ! $ params1 ! $
-        pass1 ! (init ! 8 refl (tt, tt)) $ pass1 ! (init ! 6 refl (tt, record { fits = s-fits })) $ pass1 ! (init ! 4 refl (tt, record { fits = slot-fits })) $ pass1 ! (init ! 2 refl (tt, (tt, (record { fits = store-room .0 }, tt)))) $ pass0 ! $
-        -- the call: [_5; …; room for _0; …; the tokens; what the parameters own]
-        move ! (13 ∷ []) $ fsplit ! $ move ! (14 ∷ []) $ split ! $ move ! (1 ∷ 3 ∷ []) $ join ! $ use1 W (raw (Core 𝓤 H A at-mem run .pre to-core)) goes-core $
-        -- [what the callee needs; the reference's token; the reference; _5; …]
-        calls-at ! fm (Core 𝓤 H A at-mem run) known to-core (and-then ! (load ! (from ! (stop !)) (look ! 9 refl)) (and-then ! (load ! (from ! (stop !)) (look ! 7 refl)) (and-then ! (load ! (from ! (stop !)) (look ! 5 refl)) (no-more !)))) (λ w.
-        use1 W (later (some (λ (r : Begun). ((‵ (flft κ′ q′) ⊛ ‵ ftrue) ⊛ ‵ (P.the-row .own r (w ∷ []))) ⊛ raw (ensured 𝓤 H A core.ended (core.clauses 𝓤 H A at-mem run) (κ′, tt) (s, (slot, (store, tt))) tt r)))) (id⊢ 𝓤 _) $ await ! tt $ pick ! (λ r.
+        alloc1 ! (λ l₀. alloc1 ! (λ l₁. alloc1 ! (λ l₂. alloc1 ! (λ l₃. alloc1 ! (λ l₄. alloc1 ! (λ l₅. alloc1 ! (λ l₆. alloc0 ! $ params1 ! $
+        pass1 ! (init ! 10 refl (tt, tt)) $ pass1 ! (init ! 8 refl (tt, record { fits = s-fits })) $ pass1 ! (init ! 6 refl (tt, record { fits = slot-fits })) $ pass1 ! (init ! 4 refl (tt, (tt, (record { fits = store-room .0 }, tt)))) $ pass0 ! $
+        -- the borrow is opened
+        move ! (15 ∷ []) $ fsplit ! $ fsplit3 ! $ drop ! $ move ! (17 ∷ []) $ split ! $ move ! (2 ∷ 3 ∷ 0 ∷ []) $
+        opens ! tt T.the-row {h = h} b o (λ vs. spelt ! T.the-row (Is T.the-row) (shows 𝓤 H A T.the-row) vals (LL.tells T.the-type T′.the-laws) fullShare h vs b o $
+        move ! (1 ∷ []) $ peeks ! T.the-row (Is T.the-row) (shows 𝓤 H A T.the-row) h (vals h) (λ g. drop ! $
+        -- [the state's cell; the open borrow; obs; auth; the store's token; what the numbers and the store own; _6; …; _1; …; room for _0; …]
+        assigns ! (of-opd ! (load ! (from ! (hop ! (look ! 16 refl) (stop !))) (look-raw ! 0 refl))) (from ! (stop !)) (init ! 6 refl (LL.lawful T.the-type T′.the-laws 𝓤 H A W .typed h _ g .0)) $
+        -- the call
+        move ! (5 ∷ []) $ owned ! T.the-row (Is T.the-row) (LL.makes T.the-type T′.the-plain 𝓤 H A) h _ g $ fjoin ! $ move ! (5 ∷ 0 ∷ []) $ join ! $ use1 W (raw (Core 𝓤 H A at-mem run .pre to-core)) goes-core $
+        calls-at ! fm (Core 𝓤 H A at-mem run) known to-core (and-then ! (load ! (from ! (stop !)) (look ! 5 refl)) (and-then ! (load ! (from ! (stop !)) (look ! 13 refl)) (and-then ! (load ! (from ! (stop !)) (look ! 11 refl)) (and-then ! (load ! (from ! (stop !)) (look ! 9 refl)) (no-more !))))) (λ w.
+        use1 W (later (some (λ (r : Begun). ((‵ (flft κ′ q′) ⊛ ‵ ftrue) ⊛ ‵ (P.the-row .own r (w ∷ []))) ⊛ raw (ensured 𝓤 H A core.ended (core.clauses 𝓤 H A at-mem run) (κ′, tt) given tt r)))) (id⊢ 𝓤 _) $ await ! tt $ pick ! (λ r.
         split ! $ move ! (1 ∷ []) $ use1 W (raw (fact 𝓤 (Said r))) (core-of r) $ heard ! (Said r) (λ e. split ! $ move ! (1 ∷ []) $
         peeks ! P.the-row (Is P.the-row) (shows 𝓤 H A P.the-row) r (w ∷ []) (λ is.
-        land ! (from ! (stop !)) (init ! 4 refl (LL.lawful P.the-type P′.the-laws 𝓤 H A W .typed r _ is .0)) $
-        rewrite ! 4 (λ (v : Val). ‵ (fat fullShare P′.mir l₅ 0 v)) (ap only (LL.tells P.the-type P′.the-laws r _ is)) refl $ drop ! $
-        -- the borrow is opened: [the store's token; the reference's token; the reference; _5; …]
-        move ! (2 ∷ []) $ fsplit3 ! $ drop ! $ move ! (0 ∷ 1 ∷ 3 ∷ []) $
-        opens ! tt T.the-row {h = h} b o (λ vs. spelt ! T.the-row (Is T.the-row) (shows 𝓤 H A T.the-row) vals (LL.tells T.the-type T′.the-laws) fullShare h vs b o $ move ! (1 ∷ []) $ drop ! $
-        -- [the state's cell; the open borrow; obs; auth; the store's token; _5; …; _1; …; room for _0; …]
-        assigns ! (of-opd ! (load ! (from ! (fld ! refl (stop !))) (look-in ! 5 (sub ! 1 refl (whole !))))) (from ! (hop ! (look ! 13 refl) (stop !))) (store-raw ! 0 refl (LL.lawful T.the-type T′.the-laws 𝓤 H A W .typed (r .state) _ (state-is r w is) .0)) $
-        assigns ! (of-opd ! (load ! (from ! (fld ! refl (stop !))) (look-in ! 5 (sub ! 0 refl (whole !))))) (from ! (stop !)) (init ! 15 refl (tt, record { fits = refusal-fits r w is })) $
-        -- the borrow is closed at the state that was begun
+        land ! (from ! (stop !)) (init ! 8 refl (LL.lawful P.the-type P′.the-laws 𝓤 H A W .typed r _ is .0)) $
+        rewrite ! 8 (λ (v : Val). ‵ (fat fullShare P′.mir l₅ 0 v)) (ap only (LL.tells P.the-type P′.the-laws r _ is)) refl $ drop ! $ move ! (1 ∷ 2 ∷ 3 ∷ 4 ∷ []) $
+        -- [the state's cell; the open borrow; obs; auth; the store's token; _6; _5; …; _1; …; room for _0; …]
+        assigns ! (of-opd ! (load ! (from ! (fld ! refl (stop !))) (look-in ! 7 (sub ! 1 refl (whole !))))) (from ! (hop ! (look ! 15 refl) (stop !))) (store-raw ! 0 refl (LL.lawful T.the-type T′.the-laws 𝓤 H A W .typed (r .state) _ (state-is r w is) .0)) $
+        assigns ! (of-opd ! (load ! (from ! (fld ! refl (stop !))) (look-in ! 7 (sub ! 0 refl (whole !))))) (from ! (stop !)) (init ! 17 refl (tt, record { fits = refusal-fits r w is })) $
+        -- the borrow is closed at the state that came back
         owned ! T.the-row (Is T.the-row) (LL.makes T.the-type T′.the-plain 𝓤 H A) (r .state) _ (state-is r w is) $ move ! (1 ∷ 0 ∷ []) $ closes ! tt T.the-row (r .state) (vals (r .state)) b o $
-        returns ! (look ! 14 refl) $ forget ! 4 refl $ forget ! 6 refl $ forget ! 8 refl $ forget ! 10 refl $ forget ! 12 refl $ forget ! 14 refl $
-        move ! (14 ∷ 15 ∷ []) $ free1 ! $ move ! (12 ∷ 13 ∷ []) $ free1 ! $ move ! (10 ∷ 11 ∷ []) $ free1 ! $ move ! (8 ∷ 9 ∷ []) $ free1 ! $ move ! (6 ∷ 7 ∷ []) $ free1 ! $ move ! (4 ∷ 5 ∷ []) $ free1 ! $ free0 ! $
-        keep ! (0 ∷ 1 ∷ 2 ∷ 3 ∷ []) $ by ! (exits r e (refusal-fits r w is)))))))))))))
+        returns ! (look ! 16 refl) $ forget ! 4 refl $ forget ! 6 refl $ forget ! 8 refl $ forget ! 10 refl $ forget ! 12 refl $ forget ! 14 refl $ forget ! 16 refl $
+        move ! (16 ∷ 17 ∷ []) $ free1 ! $ move ! (14 ∷ 15 ∷ []) $ free1 ! $ move ! (12 ∷ 13 ∷ []) $ free1 ! $ move ! (10 ∷ 11 ∷ []) $ free1 ! $ move ! (8 ∷ 9 ∷ []) $ free1 ! $ move ! (6 ∷ 7 ∷ []) $ free1 ! $ move ! (4 ∷ 5 ∷ []) $ free1 ! $ free0 ! $
+        keep ! (0 ∷ 1 ∷ 2 ∷ 3 ∷ []) $ by ! (exits r e (refusal-fits r w is)))))))))))))))
 
 module _ {M : Type 1} (𝓤 : URA M) (H : Heap 𝓤) (A : Atoms 𝓤) (W : Given 𝓤 H A) (mem : Memory → SProp 𝓤) (run : Routine → Fun 𝓤) where
   f-walks : (C : Calls 𝓤 H) (Λ : Loops 𝓤 H) → FmC 𝓤 H (W .laws) C → Triple 𝓤 (C #host·begin) (Core 𝓤 H A mem run) → Walks 𝓤 H A f.ended stayed (WpFn 𝓤 H C Λ code.function) (f.clauses 𝓤 H A mem run)
