@@ -130,8 +130,7 @@ fn plain(
     }
 }
 
-// acknowledge, over the state's numbers and its table lent: the one body behind the call by value and those that hold the state in
-// place.
+// acknowledge, over the state's numbers and its table lent.
 pub fn acknowledge_in(
     slot: u32,
     next: u32,

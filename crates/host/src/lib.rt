@@ -1,4 +1,4 @@
-// The receiving half of a stream for hosts in C and Rust, as a static library: reading a packet, and a receiver that is changed in
+// The receiving half of a stream for hosts in C, as a static library: reading a packet, and a receiver that is changed in
 // place. Refusals are document 01's numbers, and 0 is none; a slice is a pointer and a length. The header is host/digitmeadow.h.
 ghost use mathlib.Core.Path.{_≡_};
 ghost use lib.ListN.{length};
@@ -34,7 +34,7 @@ pub struct Part {
     pub len: usize,
 }
 
-// A packet as it is read. Where the read is refused, every number is 0 and every part is empty.
+// A packet as it is read. Where the read is refused, every other number is 0 and every part is empty.
 #[repr(C)]
 pub struct Fields {
     pub refusal: u32,

@@ -180,7 +180,7 @@ pub fn nacks(packet: &[u8]) -> &[u8]
     part(packet, span)
 }
 
-// The destination.
+// The destination, empty where there is none or the read is refused.
 pub fn destination(packet: &[u8]) -> &[u8]
     ensures { λ r. ⌜ now r ≡ destinationOf (now (packet .entry)) ⌝ }
 {
@@ -189,7 +189,7 @@ pub fn destination(packet: &[u8]) -> &[u8]
     part(packet, span)
 }
 
-// The signature.
+// The signature, empty where there is none or the read is refused.
 pub fn signature(packet: &[u8]) -> &[u8]
     ensures { λ r. ⌜ now r ≡ signatureOf (now (packet .entry)) ⌝ }
 {
@@ -198,7 +198,7 @@ pub fn signature(packet: &[u8]) -> &[u8]
     part(packet, span)
 }
 
-// The payload.
+// The payload, empty where there is none or the read is refused.
 pub fn payload(packet: &[u8]) -> &[u8]
     ensures { λ r. ⌜ now r ≡ payloadOf (now (packet .entry)) ⌝ }
 {

@@ -1,5 +1,5 @@
 // The sending half's state: 192 places for packets beside a store that the host lends, the rules behind refusal 11, and start.
-// Ports what `Stream` keeps for sending. Its `BTreeMap` of unacked packets and its `VecDeque` of pending ones become one table.
+// Ports what `Stream` keeps for sending. Its two `BTreeMap`s, of pending and of unacked packets, become one table.
 ghost use mathlib.Core.Path.{_≡_};
 ghost use mathlib.Core.Bool.{true};
 ghost use Prim.Native.Nat.{_≤_, _<_, min};

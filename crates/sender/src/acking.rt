@@ -57,7 +57,7 @@ fn acked_flags<'a, 'b>(
     flags
 }
 
-// A sample: how long ago the packet was sent, cut to 32 bits.
+// A sample: how long ago the packet was sent, at most 4,294,967,295.
 fn sample(clock: u64, sent: u64) -> u32
     ensures { λ r. ⌜ r ≡ min (clock - sent) 4294967295 ⌝ }
 {

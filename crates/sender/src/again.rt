@@ -147,7 +147,7 @@ fn still(s: Sender, timer: Timer, clock: u64) -> Sender
     }
 }
 
-// The state after resending the flagged places. RTT and RTO become unsampled, so the Rust's `exponential_backoff`, which doubles a
+// The state after resending the flagged places. RTT and RTO become unsampled, so the Rust's `exponential_backoff`, which multiplies a
 // sampled RTO, is left out: `resend` resets the RTO just before it.
 fn stamped(s: Sender, flags: [u32; 192], clock: u64) -> Sender
     requires { ⌜ clock ≤ 1000000000000000 ⌝ }

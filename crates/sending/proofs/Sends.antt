@@ -137,7 +137,7 @@ module _ (s : Sender) (clock : ℕ) (store output : List ℕ) where
         (decLt 0 (length (waiting s))),
   )
 
-  -- its answer in a sound state: 17 exactly if no number waits, 22 exactly if one does and as many fly as the window or more
+  -- its answer in a sound state, past a wrong clock: 17 exactly if no number waits, 22 exactly if one does and as many fly as the window or more
   pub send-answer : Sound s store → sendOf s clock store output .says
       ≡ (refusal 24 when clockWrong (s .clock) clock else
       refusal 17 when isEmpty (waiting s) else

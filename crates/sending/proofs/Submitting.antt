@@ -119,7 +119,7 @@ module _ (s : Sender) (r : Receiver) (send recv : StreamId) (bytes store : List 
       (λ n e. rw (submit-refused n e .0, submit-refused n e .1) sound)
       (λ given e. submit-keeps (chunksOf (s .chunk) (length bytes)) (e ∙ ap values (submit-done given e .gives)) sound)
 
-  -- Its answer in such a state: the receiver alone may be at fault, and 21 is given exactly if a number waits.
+  -- Its answer in such a state: the receiver alone may be at fault, and past that 21 is given exactly if a number waits.
   pub submit-answer : Sound s store → submitOf s r send recv bytes store .says
       ≡ (refusal 11 when not (rulesOf r) else
       refusal 10 when not (slotFits (r .slot)) else

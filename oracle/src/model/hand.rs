@@ -15,7 +15,7 @@ pub fn check() {
     ages();
 }
 
-/// A receiver after s = 0, its slots of one byte, and its store.
+/// A receiver after s, its slots of one byte, and its store.
 fn fresh(s: u32) -> (Receiver, Vec<u8>) {
     let store = vec![0; 512];
     (start(s, 1, &store).expect("a start"), store)

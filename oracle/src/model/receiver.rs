@@ -44,7 +44,7 @@ impl Receiver {
             next >= 1,
             highest >= next - 1,
             highest <= next + 511,
-            // A highest outside the span breaks one of the two rules before.
+            // A highest outside the span is next - 1, or breaks one of the two rules before.
             !span.contains(&highest) || held.contains(&highest),
             highest <= 4_294_967_294,
             held.iter().all(|number| *number <= highest),
