@@ -18,11 +18,11 @@ use Rattle.writer.specs.Writing.{packetBytes, headParts, optionParts, writeOf}
 use Rattle.writer.specs.declared.Fields.{Fields}
 use Rattle.writer.proofs.Joins.{behind, optionsLength, packet-behind}
 use Rattle.writer.proofs.ReadsBack.{Ranged, given, reads-back}
-use Rattle.receiver.specs.Slots.{isFree, markOf}
-use Rattle.receiver.specs.Rules.{rulesOf}
+use Rattle.slots.specs.Slots.{isFree, markOf}
+use Rattle.slots.specs.Rules.{rulesOf}
 use Rattle.receiver.specs.Meaning.{standing, isMissing}
-use Rattle.receiver.specs.declared.Receiver.{Receiver}
-use Rattle.receiver.proofs.Facts.{ruled}
+use Rattle.slots.specs.declared.Receiver.{Receiver}
+use Rattle.slots.proofs.Facts.{ruled}
 use Rattle.ack.specs.Missing.{missingFrom, isAmong, isReceived}
 use Rattle.ack.specs.Fields.{atLeast255, ackThrough, fieldsFrom, ackFieldsOf, ackNacksOf, ackThroughOf}
 use Rattle.ack.specs.Acknowledge.{ackedFields}

@@ -11,9 +11,9 @@ use lib.ListN.{length}
 use Rattle.terms.specs.Lists.{all}
 use Rattle.terms.proofs.Laws.{case}
 use Rattle.wire.proofs.RoundTrip.{all-take}
-use Rattle.receiver.specs.Slots.{markOf}
+use Rattle.slots.specs.Slots.{markOf}
 use Rattle.receiver.specs.Meaning.{standing, isMissing}
-use Rattle.receiver.specs.declared.Receiver.{Receiver}
+use Rattle.slots.specs.declared.Receiver.{Receiver}
 use Rattle.receiver.proofs.Laws.{where-is}
 use Rattle.receiver.proofs.Standings.{is-taken, is-missing, is-held}
 use Rattle.ack.specs.Missing.{missingOf, isAmong, ascending, isReceived}

@@ -7,10 +7,10 @@ use Rattle.terms.specs.declared.StreamId.{StreamId}
 use Rattle.terms.specs.Lists.{_atFrontOf_}
 use Rattle.terms.proofs.Determined.{determined}
 use Rattle.terms.proofs.Numbers.{number-one}
-use Rattle.receiver.specs.declared.Receiver.{Receiver}
+use Rattle.slots.specs.declared.Receiver.{Receiver}
 use Rattle.ack.specs.Missing.{missingFrom}
 use Rattle.ack.specs.Fields.{fieldsFrom}
-use Rattle.ack.specs.Acknowledge.{said, Acknowledges, acknowledges, acknowledgeOf, acknowledged}
+use Rattle.ack.specs.Acknowledge.{said, Acknowledges, acknowledgeOf, acknowledged}
 use Rattle.ack.specs.declared.AckFields.{AckFields}
 use Rattle.ack.specs.declared.Acknowledged.{Acknowledged}
 use Rattle.ack.specs.declared.Acknowledged.the-variants as A
@@ -22,21 +22,13 @@ said-one (A.Written m) (A.Refused y) e = let z : _≡_ {A = ℕ} 0 1 = cc in abs
 said-one (A.Refused x) (A.Written n) e = let z : _≡_ {A = ℕ} 0 1 = cc in absurd (omega arith)
 said-one (A.Refused x) (A.Refused y) e = ap A.Refused (number-one x y (cc))
 
-one : {promised : Acknowledges} (a b : Acknowledged) (x y : List ℕ) → acknowledged a x ≡ promised → acknowledged b y ≡ promised → (a ≡ b) × (x ≡ y)
-one a b x y p q =
+pub acknowledge-determined : (r : Receiver) (send recv : StreamId) (output : List ℕ) (a b : Acknowledged) (x y : List ℕ)
+    → acknowledged a x ≡ acknowledgeOf r send recv output → acknowledged b y ≡ acknowledgeOf r send recv output → (a ≡ b) × (x ≡ y)
+acknowledge-determined r send recv output a b x y p q =
     let e = determined p q in
     (said-one a b (ap (λ (o : Acknowledges). o .says) e), ap (λ (o : Acknowledges). o .output) e)
 
-pub acknowledge-determined : (r : Receiver) (send recv : StreamId) (output : List ℕ) (a b : Acknowledged) (x y : List ℕ)
-    → acknowledged a x ≡ acknowledgeOf r send recv output → acknowledged b y ≡ acknowledgeOf r send recv output → (a ≡ b) × (x ≡ y)
-acknowledge-determined r send recv output a b x y p q = one a b x y p q
-
 module _ (next highest : ℕ) (marks : List ℕ) where
-  pub acknowledge-in-determined : (slot : ℕ) (send recv : StreamId) (output : List ℕ) (a b : Acknowledged) (x y : List ℕ)
-      → acknowledged a x ≡ acknowledges slot next highest marks send recv output → acknowledged b y ≡ acknowledges slot next highest marks send recv output
-      → (a ≡ b) × (x ≡ y)
-  acknowledge-in-determined slot send recv output a b x y p q = one a b x y p q
-
   pub fields-determined : (table : List ℕ) (a b : AckFields) (x y : List ℕ)
       → a ≡ fieldsFrom next highest marks → x ≡ missingFrom next highest marks atFrontOf table
       → b ≡ fieldsFrom next highest marks → y ≡ missingFrom next highest marks atFrontOf table → (a ≡ b) × (x ≡ y)

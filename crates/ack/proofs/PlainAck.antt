@@ -15,9 +15,9 @@ use Rattle.terms.specs.Lists.{_atFrontOf_}
 use Rattle.terms.proofs.Laws.{rung, and-left, past}
 use Rattle.wire.proofs.RoundTrip.{fits}
 use Rattle.terms.specs.Answers.{Said, refusal, values}
-use Rattle.receiver.specs.Rules.{rulesOf, slotFits, sizesFit}
+use Rattle.slots.specs.Rules.{rulesOf, slotFits, sizesFit}
 use Rattle.receiver.specs.Meaning.{Sound}
-use Rattle.receiver.specs.declared.Receiver.{Receiver}
+use Rattle.slots.specs.declared.Receiver.{Receiver}
 use Rattle.ack.specs.Acknowledge.{plainAck, plainAckOf, acknowledgeSaid, acknowledges, acknowledgeOf}
 use Rattle.ack.proofs.Ways.{ack-most}
 use Rattle.ack.proofs.Carried.{Carries, acked-reads}

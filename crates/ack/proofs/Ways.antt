@@ -24,7 +24,7 @@ use Rattle.writer.specs.declared.Writing.the-variants as W
 use Rattle.writer.proofs.Joins.{length-packet, length-options}
 use Rattle.writer.proofs.Passed.{refusal-of}
 use Rattle.terms.specs.Answers.{Said, refusal, values, _unlessRefused_else_}
-use Rattle.receiver.specs.Rules.{rules, slotFits}
+use Rattle.slots.specs.Rules.{rules, slotFits}
 use Rattle.ack.specs.Missing.{missingFrom}
 use Rattle.ack.specs.Fields.{atLeast255, ackNacks, ackThrough, fieldsFrom, nacksFrom}
 use Rattle.ack.specs.Acknowledge.{plainFields, plainAck, acknowledgeSaid, acknowledges}

@@ -11,8 +11,8 @@ use Rattle.terms.specs.Refusals.{numberOf}
 use Rattle.writer.specs.Writing.{packetBytes}
 use Rattle.writer.specs.declared.Fields.{Fields}
 use Rattle.terms.specs.Answers.{Said, refusal, values, _unlessRefused_else_}
-use Rattle.receiver.specs.Rules.{rules, slotFits}
-use Rattle.receiver.specs.declared.Receiver.{Receiver}
+use Rattle.slots.specs.Rules.{rules, slotFits}
+use Rattle.slots.specs.declared.Receiver.{Receiver}
 use Rattle.ack.specs.Fields.{fieldsFrom, nacksFrom}
 use Rattle.ack.specs.declared.AckFields.{AckFields}
 use Rattle.ack.specs.declared.Acknowledged.{Acknowledged}

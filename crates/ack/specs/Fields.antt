@@ -5,7 +5,7 @@ use mathlib.Core.List.{List}
 use lib.Dec.{leb}
 use lib.ListN.{length, getD, take}
 use Rattle.terms.specs.Ladder.{_when_else_}
-use Rattle.receiver.specs.declared.Receiver.{Receiver}
+use Rattle.slots.specs.declared.Receiver.{Receiver}
 use Rattle.ack.specs.Missing.{missingFrom}
 use Rattle.ack.specs.declared.AckFields.{AckFields}
 

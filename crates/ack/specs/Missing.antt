@@ -5,9 +5,9 @@ use mathlib.Core.List.{List, [], _∷_}
 use lib.Dec.{ltb, eqb}
 use Rattle.terms.specs.Ladder.{_when_else_}
 use Rattle.terms.specs.Lists.{all}
-use Rattle.receiver.specs.Slots.{isFree, markOf}
+use Rattle.slots.specs.Slots.{isFree, markOf}
 use Rattle.receiver.specs.Meaning.{Standing, taken, held, missing, unseen}
-use Rattle.receiver.specs.declared.Receiver.{Receiver}
+use Rattle.slots.specs.declared.Receiver.{Receiver}
 
 infix 30 _upTo_
 -- so many numbers, each one above the last

@@ -13,7 +13,7 @@ ghost use Rattle.ack.specs.Missing.{missingFrom};
 ghost use Rattle.ack.specs.Fields.{fieldsFrom};
 ghost use Rattle.ack.specs.Acknowledge.{said, acknowledged, plainAck, acknowledges, acknowledgeOf};
 use packet::flags;
-use receiver::Receiver;
+use slots::Receiver;
 use terms::Refusal;
 use terms::SeqNo;
 use terms::StreamId;
@@ -62,7 +62,7 @@ fn list_missing(next: u32, highest: u32, marks: &[u16], missing: &mut [u32; 512]
 
 // The ack fields of a receiver, for the plain ack and for data packets: ports what both of them take from `InboundContext`. All missing
 // numbers are written to the front of the lent table, and the NACKs are the first of them. The state keeps the rules, as
-// `receiver::rules_hold` tells.
+// `slots::rules_hold` tells.
 pub fn fields(next: u32, highest: u32, marks: &[u16], missing: &mut [u32; 512]) -> AckFields
     requires { ⌜ (length (now marks) ≡ 512) × (length (now missing) ≡ 512) × (highest ≤ next + 511) × (highest ≤ 4294967294) ⌝ }
     ensures { λ r. ⌜ r ≡ fieldsFrom next highest (now (marks .entry)) ⌝ }
@@ -131,7 +131,7 @@ fn plain(
 }
 
 // acknowledge, over the state's numbers and its table lent.
-pub fn acknowledge_in(
+fn acknowledge_in(
     slot: u32,
     next: u32,
     highest: u32,
@@ -143,10 +143,10 @@ pub fn acknowledge_in(
     requires { ⌜ length (now marks) ≡ 512 ⌝ }
     ensures { λ a. ⌜ acknowledged a (now (output .exit)) ≡ acknowledges slot next highest (now (marks .entry)) send recv (now (output .entry)) ⌝ }
 {
-    if !receiver::rules_hold(slot, next, highest, marks) {
+    if !slots::rules_hold(slot, next, highest, marks) {
         return Acknowledged::Refused(Refusal::StateBroken);
     }
-    if !receiver::slot_fits(slot) {
+    if !slots::slot_fits(slot) {
         return Acknowledged::Refused(Refusal::SizeWrong);
     }
     plain(next, highest, marks, send, recv, output)

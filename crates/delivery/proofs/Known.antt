@@ -15,7 +15,7 @@ use lib.ListN.{length, getElem?, length-append}
 use Rattle.terms.specs.Ladder.{_when_else_}
 use Rattle.terms.proofs.Laws.{case}
 use Rattle.receiver.specs.Meaning.{Standing, taken, held, missing, unseen, standing, Sound}
-use Rattle.receiver.specs.declared.Receiver.{Receiver}
+use Rattle.slots.specs.declared.Receiver.{Receiver}
 use Rattle.receiver.proofs.Laws.{above-unseen}
 use Rattle.delivery.specs.History.{Piece, firstOf, highestOf}
 use Rattle.delivery.proofs.Pieces.{by-first, first-stays, first-other, first-own, highest-more, at-place}

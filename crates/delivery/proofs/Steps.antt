@@ -15,11 +15,10 @@ use Rattle.terms.specs.Lists.{all, _atFrontOf_}
 use Rattle.terms.proofs.Laws.{case, and-left, and-right}
 use Rattle.terms.proofs.Scan.{all-append}
 use Rattle.terms.specs.Answers.{Said, refusal, values}
-use Rattle.receiver.specs.Start.{startOf}
+use Rattle.slots.specs.Start.{startOf}
 use Rattle.receiver.specs.Accept.{acceptOf}
 use Rattle.receiver.specs.Take.{takeOf}
-use Rattle.receiver.proofs.Laws.{by-said, start-standing, start-sound, start-slot, start-next, start-highest, accept-changes, accept-nothing, accept-sound, accept-fair, accept-slot}
-use Rattle.receiver.proofs.Laws.{take-changes, take-nothing, take-sound, take-fair, take-slot, slot-fits}
+use Rattle.receiver.proofs.Laws.{by-said, start-standing, start-sound, start-slot, start-next, start-highest, accept-changes, accept-nothing, accept-sound, accept-fair, accept-slot, take-changes, take-nothing, take-sound, take-fair, take-slot, slot-fits}
 use Rattle.ack.proofs.PlainAck.{acknowledge-fair}
 use Rattle.delivery.specs.Runs.{Call, accept, take, acknowledge, Event, Kept, stepOf, keptAfter, eventsOf, inWidth, allInWidth, begun}
 use Rattle.delivery.specs.History.{Piece, acceptedBy, acceptedIn, takenBy, takenIn, refusedBy, refusedIn}

@@ -9,10 +9,10 @@ use lib.ListN.{length}
 use Rattle.terms.specs.declared.SeqNo.{SeqNo}
 use Rattle.terms.specs.declared.StreamId.{StreamId}
 use Rattle.terms.specs.Answers.{Said, values}
-use Rattle.receiver.specs.Start.{startOf}
+use Rattle.slots.specs.Start.{startOf}
 use Rattle.receiver.specs.Accept.{acceptOf}
 use Rattle.receiver.specs.Take.{takeOf}
-use Rattle.receiver.specs.declared.Receiver.{Receiver}
+use Rattle.slots.specs.declared.Receiver.{Receiver}
 use Rattle.ack.specs.Acknowledge.{acknowledgeOf}
 
 -- a call, with what it is given beside the state and the store

@@ -2,9 +2,6 @@
 // The state and what a call asks stand in the registers, and its answer goes there.
 use ack::Acknowledged;
 use lines::part;
-use receiver::Answer;
-use receiver::Given;
-use receiver::Receiver;
 use script::registers;
 use script::registers::Bank;
 use script::registers::Bytes;
@@ -16,6 +13,9 @@ use script::registers::RECEIVER_STORE;
 use script::registers::SUM;
 use script::registers::Store;
 use script::sum;
+use slots::Receiver;
+use terms::Answer;
+use terms::Given;
 use terms::SeqNo;
 use terms::StreamId;
 
@@ -73,7 +73,7 @@ fn answer(bank: &mut Bank, answer: Answer) {
 fn start(bank: &mut Bank, store: &[u8]) {
     let s = SeqNo(registers::word32(bank, 0));
     let slot = registers::word32(bank, 1);
-    let done = receiver::start(s, slot, store);
+    let done = slots::start(s, slot, store);
     let after = done.state;
     let said = done.answer;
     keep(bank, after);

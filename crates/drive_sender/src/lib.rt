@@ -3,8 +3,7 @@
 mod state;
 
 use lines::part;
-use receiver::Answer;
-use receiver::Given;
+use places::Tally;
 use script::registers;
 use script::registers::Bank;
 use script::registers::Bytes;
@@ -16,7 +15,8 @@ use script::registers::SUM;
 use script::registers::Store;
 use script::sum;
 use sender::Departure;
-use sender::Tally;
+use terms::Answer;
+use terms::Given;
 use terms::SeqNo;
 use terms::StreamId;
 
@@ -54,7 +54,7 @@ fn set_store(bank: &mut Bank, store: &[u8]) {
 
 fn valid(bank: &mut Bank) {
     let s = state::given(bank);
-    if places::valid(s) {
+    if rules::valid(s) {
         registers::answer(bank, 1);
     } else {
         registers::answer(bank, 0);
@@ -108,7 +108,7 @@ fn acks(bank: &mut Bank) {
     let clock = registers::value(bank, 2);
     let nacks = registers::nacks(bank);
     let s = state::given(bank);
-    let done = sender::acks(s, through, part::front32(&nacks, n), clock);
+    let done = acks::acks(s, through, part::front32(&nacks, n), clock);
     let after = done.state;
     let said = done.answer;
     state::keep(bank, after);
@@ -119,7 +119,7 @@ fn resend(bank: &mut Bank) {
     let clock = registers::value(bank, 0);
     let path = registers::value(bank, 1) != 0;
     let s = state::given(bank);
-    let done = sender::resend(s, clock, path);
+    let done = resend::resend(s, clock, path);
     let after = done.state;
     let said = done.answer;
     state::keep(bank, after);

@@ -2,12 +2,13 @@
 use Prim.Native.Nat.{ℕ}
 use mathlib.Core.Path.{_≡_, sym, _∙_, ap}
 use mathlib.Core.List.{[]}
-use Rattle.receiver.specs.Answers.{said, Outcome}
-use Rattle.receiver.specs.Start.{started}
-use Rattle.receiver.specs.declared.Answer.{Answer}
-use Rattle.receiver.specs.declared.Answer.the-variants as A
-use Rattle.receiver.specs.declared.Receiver.{Receiver}
-use Rattle.receiver.specs.declared.Started.{Started}
+use Rattle.terms.specs.Answers.{said}
+use Rattle.slots.specs.Answers.{Outcome}
+use Rattle.slots.specs.Start.{started}
+use Rattle.terms.specs.declared.Answer.{Answer}
+use Rattle.terms.specs.declared.Answer.the-variants as A
+use Rattle.slots.specs.declared.Receiver.{Receiver}
+use Rattle.slots.specs.declared.Started.{Started}
 use Rattle.host.specs.declared.Counted.{Counted}
 use Rattle.host.specs.Numbers.{inNumbers, hostedStart}
 

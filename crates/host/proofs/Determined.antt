@@ -6,10 +6,10 @@ use Rattle.terms.specs.declared.SeqNo.{SeqNo}
 use Rattle.terms.specs.declared.StreamId.{StreamId}
 use Rattle.terms.proofs.Determined.{determined}
 use Rattle.packet.specs.Reading.{readOf}
-use Rattle.receiver.specs.Start.{startOf}
+use Rattle.slots.specs.Start.{startOf}
 use Rattle.receiver.specs.Accept.{acceptOf}
 use Rattle.receiver.specs.Take.{takeOf}
-use Rattle.receiver.specs.declared.Receiver.{Receiver}
+use Rattle.slots.specs.declared.Receiver.{Receiver}
 use Rattle.ack.specs.Acknowledge.{acknowledgeOf}
 use Rattle.host.specs.declared.Counted.{Counted}
 use Rattle.host.specs.declared.Fields.{Fields}

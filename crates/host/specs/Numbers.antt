@@ -2,8 +2,8 @@
 use Prim.Native.Nat.{ℕ}
 use mathlib.Core.List.{List, [], _∷_}
 use Rattle.terms.specs.Answers.{Said, refusal, values, _unlessRefused_else_}
-use Rattle.receiver.specs.Answers.{Outcome}
-use Rattle.receiver.specs.declared.Receiver.{Receiver}
+use Rattle.slots.specs.Answers.{Outcome}
+use Rattle.slots.specs.declared.Receiver.{Receiver}
 use Rattle.ack.specs.Acknowledge.{Acknowledges}
 use Rattle.host.specs.declared.Counted.{Counted}
 

@@ -3,8 +3,8 @@
 ghost use mathlib.Core.Path.{_≡_};
 ghost use lib.ListN.{length};
 ghost use Rattle.packet.specs.Reading.{readOf, nothing, answered as readAs};
-ghost use Rattle.receiver.specs.Answers.{said, saidOf};
-ghost use Rattle.receiver.specs.Start.{startOf};
+ghost use Rattle.terms.specs.Answers.{said, saidOf};
+ghost use Rattle.slots.specs.Start.{startOf};
 ghost use Rattle.receiver.specs.Accept.{acceptOf};
 ghost use Rattle.receiver.specs.Take.{takeOf};
 ghost use Rattle.ack.specs.Acknowledge.{said as ackSaid, acknowledgeOf};
@@ -14,9 +14,9 @@ use ack::Acknowledged;
 use packet::Packet;
 use packet::Reading;
 use packet::Span;
-use receiver::Answer;
-use receiver::Given;
-use receiver::Receiver;
+use slots::Receiver;
+use terms::Answer;
+use terms::Given;
 use terms::SeqNo;
 use terms::StreamId;
 
@@ -173,7 +173,7 @@ fn begin(r: Receiver, s: u32, slot: u32, store: &[u8]) -> Begun
     ensures { λ b. ⌜ begun (b .refusal) (b .state) ≡ hostedStart r (startOf (record { 0 = s }) slot (length (now (store .entry)))) ⌝ }
 {
     let after = SeqNo(s);
-    let started = receiver::start(after, slot, store);
+    let started = slots::start(after, slot, store);
     let answer = started.answer;
     let state = started.state;
     match answer {
@@ -188,7 +188,7 @@ fn begin(r: Receiver, s: u32, slot: u32, store: &[u8]) -> Begun
     }
 }
 
-// Starts a receiver after the number s: `receiver::start`, into the state that is lent, which a refused start leaves as it was.
+// Starts a receiver after the number s: `slots::start`, into the state that is lent, which a refused start leaves as it was.
 #[no_mangle]
 pub extern "C" fn digitmeadow_start(r: &mut Receiver, s: u32, slot: u32, store: &[u8]) -> u32
     ensures { λ c. ⌜ begun c (now (r .exit)) ≡ hostedStart (now (r .entry)) (startOf (record { 0 = s }) slot (length (now (store .entry)))) ⌝ }

@@ -3,14 +3,13 @@ use Prim.Native.Nat.{ℕ}
 use mathlib.Core.Path.{_≡_, ap}
 use mathlib.Core.List.{List}
 use Rattle.terms.specs.declared.SeqNo.{SeqNo}
-use Rattle.terms.proofs.Determined.{determined}
-use Rattle.receiver.specs.Answers.{Outcome}
+use Rattle.terms.proofs.Determined.{determined, said-one, said-of-one}
+use Rattle.slots.specs.Answers.{Outcome}
 use Rattle.receiver.specs.Accept.{acceptOf}
 use Rattle.receiver.specs.Take.{takeOf}
-use Rattle.receiver.specs.declared.Answer.{Answer}
-use Rattle.receiver.specs.declared.Given.{Given}
-use Rattle.receiver.specs.declared.Receiver.{Receiver}
-use Rattle.receiver.proofs.Determined.{said-one, said-of-one}
+use Rattle.terms.specs.declared.Answer.{Answer}
+use Rattle.terms.specs.declared.Given.{Given}
+use Rattle.slots.specs.declared.Receiver.{Receiver}
 use Rattle.inplace.specs.Behind.{acceptedBehind, tookBehind}
 
 module _ (r s t : Receiver) (x y : List ℕ) where

@@ -5,12 +5,12 @@ use mathlib.Core.List.{List}
 use Rattle.terms.specs.declared.SeqNo.{SeqNo}
 use Rattle.terms.specs.declared.Refusal.{Refusal}
 use Rattle.terms.specs.Refusals.{numberOf}
-use Rattle.receiver.specs.Answers.{Outcome}
+use Rattle.slots.specs.Answers.{Outcome}
 use Rattle.receiver.specs.Accept.{acceptOf}
 use Rattle.receiver.specs.Take.{takeOf}
-use Rattle.receiver.specs.declared.Answer.the-variants as A
-use Rattle.receiver.specs.declared.Given.the-variants as G
-use Rattle.receiver.specs.declared.Receiver.{Receiver}
+use Rattle.terms.specs.declared.Answer.the-variants as A
+use Rattle.terms.specs.declared.Given.the-variants as G
+use Rattle.slots.specs.declared.Receiver.{Receiver}
 use Rattle.receiver.proofs.Laws.{accept-nothing, take-nothing}
 use Rattle.inplace.specs.Behind.{acceptedBehind, tookBehind}
 

@@ -21,9 +21,9 @@ use borrow.Struct.Items.{cut-array}
 use Rattle.terms.specs.declared.SeqNo.{SeqNo}
 use Rattle.terms.proofs.SeqNo as Q
 use Rattle.terms.proofs.SeqNo.Laws as Q′
-use Rattle.receiver.specs.declared.Receiver.{Receiver}
-use Rattle.receiver.proofs.Receiver as T
-use Rattle.receiver.proofs.Receiver.Laws as T′
+use Rattle.slots.specs.declared.Receiver.{Receiver}
+use Rattle.slots.proofs.Receiver as T
+use Rattle.slots.proofs.Receiver.Laws as T′
 
 -- the machine values of a state, and the type of its marks
 abbrev pub vals : Receiver → List Val

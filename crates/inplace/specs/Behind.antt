@@ -1,10 +1,11 @@
 -- Results of the calls in place, as outcomes of the calls by value: the state is the one that lies behind the reference at exit.
 use Prim.Native.Nat.{ℕ}
 use mathlib.Core.List.{List}
-use Rattle.receiver.specs.Answers.{said, saidOf, Outcome}
-use Rattle.receiver.specs.declared.Answer.{Answer}
-use Rattle.receiver.specs.declared.Given.{Given}
-use Rattle.receiver.specs.declared.Receiver.{Receiver}
+use Rattle.terms.specs.Answers.{said, saidOf}
+use Rattle.slots.specs.Answers.{Outcome}
+use Rattle.terms.specs.declared.Answer.{Answer}
+use Rattle.terms.specs.declared.Given.{Given}
+use Rattle.slots.specs.declared.Receiver.{Receiver}
 
 abbrev pub acceptedBehind : Answer → Receiver → List ℕ → Outcome
 acceptedBehind answer state store = record { says = said answer; state = state; lent = store }

@@ -6,9 +6,9 @@ ghost use mathlib.Core.Path.{_≡_};
 ghost use Rattle.receiver.specs.Accept.{acceptOf};
 ghost use Rattle.receiver.specs.Take.{takeOf};
 ghost use Rattle.inplace.specs.Behind.{acceptedBehind, tookBehind};
-use receiver::Answer;
-use receiver::Given;
-use receiver::Receiver;
+use slots::Receiver;
+use terms::Answer;
+use terms::Given;
 use terms::SeqNo;
 
 // Accepts a packet's payload under its number, over `receiver::accept`.

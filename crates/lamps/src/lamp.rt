@@ -7,10 +7,10 @@ use ack::Acknowledged;
 use lines::part;
 use lines::say;
 use packet::Reading;
-use receiver::Answer;
-use receiver::Given;
-use receiver::Receiver;
 use receiver::Taken;
+use slots::Receiver;
+use terms::Answer;
+use terms::Given;
 use terms::SeqNo;
 use terms::StreamId;
 
@@ -31,7 +31,7 @@ struct Step {
 
 pub fn start(store: &Store) -> Lamp {
     let before_all = SeqNo(0);
-    let started = receiver::start(before_all, 128, store);
+    let started = slots::start(before_all, 128, store);
     let fresh = started.state;
     Lamp {
         receiver: fresh,

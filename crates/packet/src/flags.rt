@@ -34,7 +34,7 @@ pub fn size_if(there: bool, size: usize) -> usize
 }
 
 // An option's number of two bytes: 0 where it is absent.
-pub fn number_if(there: bool, packet: &[u8], at: usize) -> u16
+pub(super) fn number_if(there: bool, packet: &[u8], at: usize) -> u16
     requires { ⌜ (there ≡ true → at + 2 ≤ length (now packet)) ⌝ }
     ensures { λ r. ⌜ r ≡ (numberAt 2 at (now (packet .entry)) when there else 0) ⌝ }
 {

@@ -3,15 +3,18 @@ use Prim.Native.Nat.{ℕ, _+_, _*_, _≤_, _<_}
 use mathlib.Core.Path.{_≡_, refl, sym, subst}
 use mathlib.Core.Bool.{Bool, true, false, _&&_, _||_, not}
 use mathlib.Core.List.{List}
-use native.Mathlib.Nat.{zero-add}
+use native.Mathlib.Nat.{zero-add, mul-le-mul-right}
+use native.Mathlib.Decide.{decLt}
+use native.Mathlib.Omega.{arith}
 use borrow.Author.Tests.{le-leb, leb-true, lt-ltb, le-ltb, ltb-true, ltb-false, eq-eqb, ne-eqb, eqb-true, eqb-false, not-true, not-false}
 use lib.Dec.{leb, ltb, eqb}
 use lib.ListN.{length, getD}
 use Rattle.terms.specs.Lists.{each}
-use Rattle.terms.proofs.Laws.{and-left, and-right, and-both, each-at, each-of, or-right, or-of, or-false-left, or-false-right}
+use Rattle.terms.proofs.Laws.{case, and-left, and-right, and-both, each-at, each-of, or-right, or-of, or-false-left, or-false-right}
 use Rattle.timer.specs.Timer.{timingFits}
 use Rattle.places.specs.Table.{_!_, isFree, isWaiting, isFlying, countOf}
-use Rattle.places.specs.Rules.{apart, belowWaiting, below, someNumber, freeFrom, emptyPlace, unsent, sentBy, lengthWithin, knownMark, timerFits, rules, countsFit, sizesFit}
+use Rattle.places.specs.Numbers.{offsetOf}
+use Rattle.places.specs.Rules.{apart, belowWaiting, below, someNumber, freeFrom, emptyPlace, unsent, sentBy, lengthWithin, knownMark, timerFits, rules, countsFit, sizesFit, clockWrong}
 use Rattle.places.specs.declared.Sender.{Sender}
 
 -- a test at each place
@@ -194,3 +197,18 @@ sized chunk count storeLength h = record {
   counts = counted chunk count (and-left (countsFit chunk count) _ h);
   store = eqb-true _ _ (and-right (countsFit chunk count) (eqb storeLength (count * (chunk + 1044))) h);
 }
+
+-- a clock that is not wrong
+pub clock-fair : (last clock : ℕ) → clockWrong last clock ≡ false → (last ≤ clock) × (clock ≤ 1000000000000000)
+unfolding clockWrong
+clock-fair last clock e = (ltb-false _ _ (or-false-left (ltb clock last) (ltb 1000000000000000 clock) e), ltb-false _ _ (or-false-right (ltb clock last) (ltb 1000000000000000 clock) e))
+
+-- a stored packet lies within the store
+pub packet-in : (s : Sender) → length (s .marks) ≡ 192 → Ruled s → (storeLength place : ℕ) → sizesFit (s .chunk) (s .count) storeLength ≡ true → place < 192 → (s .marks ! place ≡ 0 → ⊥)
+    → offsetOf (s .chunk) place + (s .lengths ! place) ≤ storeLength
+packet-in s table r storeLength place f h n =
+    let z = sized (s .chunk) (s .count) storeLength f in
+    let short = r .short place (omega arith) n in
+    let open-place : place + 1 ≤ s .count =
+    case (λ (q : place < s .count). omega arith) (λ (q : place < s .count → ⊥). absurd (n (r .shut place (omega arith) (omega arith)))) (decLt place (s .count)) in
+    omega (arith, mul-le-mul-right (s .chunk + 1044) open-place, z .store)

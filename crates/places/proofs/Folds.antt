@@ -1,7 +1,7 @@
 -- The loops over the table, for any test: what one more turn adds to each definition. Assumes nothing.
 use Prim.Native.Nat.{ℕ, zero, suc, _+_, _≤_, _<_, min}
 use mathlib.Core.Path.{_≡_, refl, sym, _∙_, subst}
-use mathlib.Core.Bool.{Bool, true, false, _&&_}
+use mathlib.Core.Bool.{Bool, true, false}
 use mathlib.Core.List.{List, [], _∷_, _++_}
 use native.Mathlib.Nat.{zero-add, not-suc-le-zero}
 use native.Mathlib.Numerals.{add-one}
@@ -11,32 +11,9 @@ use borrow.Author.Tests.{eq-eqb, ne-eqb, lt-ltb, le-ltb}
 use lib.Dec.{eqb}
 use lib.ListN.{length, getD, take, drop}
 use lib.Seq.{take-suc, drop-cons, drop-length}
-use Rattle.terms.proofs.Laws.{case, and-left, and-right, and-both}
-use Rattle.places.specs.Steps.{every, candidateOf, leastOf}
+use Rattle.terms.proofs.Laws.{case}
+use Rattle.places.specs.Steps.{candidateOf, leastOf}
 use Rattle.places.specs.Table.{_!_, oneIf, countOf, placeOf}
-
--- each index below n
-pub every-none : (p : ℕ → Bool) → true ≡ every 0 p
-unfolding every
-every-none p = refl
-
-pub every-more : (p : ℕ → Bool) (ok : Bool) (i : ℕ) → ok ≡ every i p → (ok && p i) ≡ every (i + 1) p
-unfolding every
-every-more p ok i e = rw (add-one, e)
-
-pub every-at : (p : ℕ → Bool) (n : ℕ) → every n p ≡ true → (k : ℕ) → k < n → p k ≡ true
-unfolding every
-every-at p zero t k h = absurd (not-suc-le-zero h)
-every-at p (suc n) t k h =
-    case
-    (λ (e : k ≡ n). rw e (and-right (every n p) (p n) t))
-    (λ (o : k ≡ n → ⊥). every-at p n (and-left (every n p) (p n) t) k (omega (arith, o)))
-    (ℕ-discrete k n)
-
-pub every-of : (p : ℕ → Bool) (n : ℕ) → ((k : ℕ) → k < n → p k ≡ true) → every n p ≡ true
-unfolding every
-every-of p zero f = refl
-every-of p (suc n) f = and-both (every n p) (p n) (every-of p n (λ k h. f k (omega arith))) (f n (omega arith))
 
 -- how many are equal to x
 pub count-append : (x : ℕ) (a b : List ℕ) → countOf x (a ++ b) ≡ countOf x a + countOf x b
@@ -71,13 +48,6 @@ least-none numbers marks wanted from = refl
 pub one-most : (b : Bool) → oneIf b ≤ 1
 one-most true = omega arith
 one-most false = omega arith
-
--- the last turn, and one more where a call gave the test's value
-pub every-turn : (p : ℕ → Bool) (ok one : Bool) (i : ℕ) → ok ≡ every i p → one ≡ p i → (ok && one) ≡ every (i + 1) p
-every-turn p ok one i e f = rw f (every-more p ok i e)
-
-pub every-last : (p : ℕ → Bool) (ok : Bool) (i n : ℕ) → ok ≡ every i p → i ≡ n → ok ≡ every n p
-every-last p ok i n e f = rw f at e
 
 -- the lowest number sought is at most each that is sought, and where it is below 4,294,967,295 it stands somewhere
 module _ (numbers marks : List ℕ) (wanted from : ℕ) where

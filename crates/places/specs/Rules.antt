@@ -106,3 +106,7 @@ countsFit chunk count = leb 1 chunk and leb chunk 1812 and leb 1 count and leb c
 -- and the store exactly K × (C + 1,044) bytes
 unfoldable pub sizesFit : ℕ → ℕ → ℕ → Bool
 sizesFit chunk count storeLength = countsFit chunk count and eqb storeLength (count * (chunk + 1044))
+
+-- a clock below the last accepted one, or above 10^15
+unfoldable pub clockWrong : ℕ → ℕ → Bool
+clockWrong last clock = ltb clock last || ltb 1000000000000000 clock

@@ -1,14 +1,14 @@
 -- What start does, whatever it is given.
 use Prim.Native.Nat.{ℕ}
 use mathlib.Core.Bool.{not}
-use mathlib.Core.List.{List, []}
+use mathlib.Core.List.{[]}
 use lib.Dec.{eqb}
 use lib.ListN.{replicate}
 use Rattle.terms.specs.declared.SeqNo.{SeqNo}
 use Rattle.terms.specs.Ladder.{_when_else_}
 use Rattle.timer.specs.declared.Timing.the-variants as G
-use Rattle.terms.specs.Answers.{Said, refusal, values, _unlessRefused_else_}
-use Rattle.receiver.specs.Answers.{said}
+use Rattle.terms.specs.Answers.{Said, refusal, values, _unlessRefused_else_, said}
+use Rattle.places.specs.Answers.{Outcome}
 use Rattle.places.specs.Rules.{stateOf, sizesFit}
 use Rattle.places.specs.declared.Timer.the-variants as T
 use Rattle.places.specs.declared.Sender.{Sender}
@@ -31,12 +31,6 @@ nothingStored chunk count next =
 -- what stands beside a refused start: a state whose next is 0, so that every later call refuses it with 11
 abbrev pub unusable : Sender
 unusable = nothingStored 0 0 0
-
--- what a call says, the state after it, and what it was lent to change, as it leaves it
-pub record Outcome : Type 0 where
-  pub says : Said
-  pub state : Sender
-  pub lent : List ℕ
 
 -- the whole outcome; a start is lent nothing to change
 abbrev pub startOf : SeqNo → ℕ → ℕ → ℕ → Outcome

@@ -1,21 +1,12 @@
--- What the code's own functions promise: the searches, and the rules as the check tests them. No promise of a call that a host makes needs this page.
-use Prim.Native.Nat.{ℕ, zero, suc, _+_, min}
-use mathlib.Core.Bool.{Bool, true, false, _&&_, not}
+-- What the code's own searches promise, and what they ask of the table. No promise of a call that a host makes needs this page.
+use Prim.Native.Nat.{ℕ, zero, suc, _≤_, _<_, min}
+use mathlib.Core.Path.{_≡_}
+use mathlib.Core.Bool.{not}
 use mathlib.Core.List.{List}
-use lib.Dec.{leb, ltb, eqb}
-use lib.ListN.{take}
+use lib.Dec.{ltb, eqb}
+use lib.ListN.{length}
 use Rattle.terms.specs.Ladder.{_when_else_}
-use Rattle.terms.specs.Lists.{all}
-use Rattle.places.specs.Table.{_!_, _unless_, differs}
-
--- the test p passes at each index below n
-unfoldable pub every : ℕ → (ℕ → Bool) → Bool
-every zero p = true
-every (suc n) p = every n p && p n
-
--- a number that is not 0 is alone where it stands at no index below
-unfoldable pub aloneAt : List ℕ → ℕ → Bool
-aloneAt numbers i = all (differs (numbers ! i)) (take i numbers) unless eqb (numbers ! i) 0
+use Rattle.places.specs.Table.{_!_}
 
 -- the lowest number from `from` on whose mark is the wanted one, among the first n places; 4,294,967,295 where there is none
 unfoldable pub candidateOf : ℕ → ℕ → ℕ → ℕ → ℕ
@@ -28,18 +19,12 @@ unfoldable pub leastOf : List ℕ → List ℕ → ℕ → ℕ → ℕ → ℕ
 leastOf numbers marks wanted from zero = 4294967295
 leastOf numbers marks wanted from (suc n) = min (leastOf numbers marks wanted from n) (candidateOf (numbers ! n) (marks ! n) wanted from)
 
--- the rules of one place together, as the code tests them: bound is next, or the lowest waiting number where that is below it
-unfoldable pub placeHolds : ℕ → ℕ → ℕ → ℕ → ℕ → ℕ → ℕ → ℕ → ℕ → ℕ → Bool
-placeHolds chunk count next bound clock i number size sent mark =
-    (eqb number 0 && (eqb size 0 && eqb sent 0)) when eqb mark 0 else
-    false when leb count i else
-    false when ltb number 1 else
-    false when ltb size 22 else
-    false when ltb (chunk + 1044) size else
-    (eqb sent 0 && ltb number next) when eqb mark 1 else
-    false when ltb 2 mark else
-    (ltb number bound && leb sent clock)
-
-abbrev pub placeAt : ℕ → ℕ → ℕ → ℕ → ℕ → List ℕ → List ℕ → List ℕ → List ℕ → ℕ → Bool
-placeAt chunk count next bound clock numbers lengths sent marks i =
-    placeHolds chunk count next bound clock i (numbers ! i) (lengths ! i) (sent ! i) (marks ! i)
+-- what a search by mark asks of the table: no number but 0 stands twice, none reaches next, and what bears the mark has a number
+pub record Tidy (numbers marks : List ℕ) (wanted next : ℕ) : Type 0 where
+  pub row : length numbers ≡ 192
+  pub table : length marks ≡ 192
+  pub mark : 1 ≤ wanted
+  pub alone : (i j : ℕ) → i < 192 → j < 192 → (i ≡ j → ⊥) → numbers ! i ≡ numbers ! j → numbers ! i ≡ 0
+  pub low : (i : ℕ) → i < 192 → marks ! i ≡ wanted → numbers ! i < next
+  pub some : (i : ℕ) → i < 192 → marks ! i ≡ wanted → 1 ≤ numbers ! i
+  pub width : next ≤ 4294967295

@@ -43,3 +43,8 @@ placeOf (x ∷ l) n = 0 when eqb x n else suc (placeOf l n)
 -- y is another than x
 abbrev pub differs : ℕ → ℕ → Bool
 differs x y = not (eqb y x)
+
+-- a list with a value in each place that passes, counted from i
+unfoldable pub replaced : ℕ → (ℕ → Bool) → ℕ → List ℕ → List ℕ
+replaced value p i [] = []
+replaced value p i (x ∷ l) = (value when p i else x) ∷ replaced value p (suc i) l

@@ -7,8 +7,8 @@ use native.Mathlib.Omega.{arith}
 use lib.ListN.{length, getD, set, length-set}
 use lib.Seq.{getD-set-same, getD-set-other}
 use Rattle.terms.proofs.Laws.{case}
-use Rattle.receiver.specs.Slots.{markOf, slotNumber}
-use Rattle.receiver.proofs.Facts.{Ruled}
+use Rattle.slots.specs.Slots.{markOf, slotNumber}
+use Rattle.slots.proofs.Facts.{Ruled}
 
 -- two numbers of one span have two slots
 pub apart : (next m n : ℕ) → next ≤ m → m - next < 512 → next ≤ n → n - next < 512 → (m ≡ n → ⊥) → m % 512 ≡ n % 512 → ⊥

@@ -15,14 +15,14 @@ use Rattle.terms.specs.Ladder.{_when_else_}
 use Rattle.terms.specs.Lists.{_atFrontOf_}
 use Rattle.terms.proofs.Laws.{case, and-left, and-right, past}
 use Rattle.terms.specs.Answers.{Said, refusal, values}
-use Rattle.receiver.specs.Slots.{isFree, isHeld, lengthOf, markOf, offsetOf, filled, heldBytes}
-use Rattle.receiver.specs.Rules.{rules, rulesOf, slotFits, sizesFit}
-use Rattle.receiver.specs.Start.{startSaid, startOf, fresh, unusable}
+use Rattle.slots.specs.Slots.{isFree, isHeld, lengthOf, markOf, offsetOf, filled, heldBytes}
+use Rattle.slots.specs.Rules.{rules, rulesOf, slotFits, sizesFit}
+use Rattle.slots.specs.Start.{startSaid, startOf, fresh, unusable}
 use Rattle.receiver.specs.Accept.{acceptSaid, accepts, acceptOf}
 use Rattle.receiver.specs.Take.{takeSaid, takes, takeOf}
 use Rattle.receiver.specs.Meaning.{taken, held, missing, unseen, standing, isMissing, Sound, acceptBy, takeBy}
-use Rattle.receiver.specs.declared.Receiver.{Receiver}
-use Rattle.receiver.proofs.Facts.{Ruled, ruled, rules-of, sized}
+use Rattle.slots.specs.declared.Receiver.{Receiver}
+use Rattle.slots.proofs.Facts.{Ruled, ruled, rules-of, sized}
 use Rattle.receiver.proofs.Outcomes.{slot-in, accept-refused, accept-done, Passed, passed, take-refused, take-done, held-short, Gives, gives}
 use Rattle.receiver.proofs.Keeps.{apart, number-is, mark-same, mark-other, accept-keeps, take-keeps}
 use Rattle.receiver.proofs.Standings.{is-taken, is-unseen, is-missing, is-held, filled-length, filled-here, filled-other}

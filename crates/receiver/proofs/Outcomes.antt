@@ -14,17 +14,16 @@ use Rattle.terms.specs.Refusals.{numberOf}
 use Rattle.terms.specs.declared.Refusal.{Refusal}
 use Rattle.terms.proofs.Laws.{case, past}
 use Rattle.wire.proofs.Parts.{rest-back}
-use Rattle.terms.specs.Answers.{refusal, values}
-use Rattle.receiver.specs.Answers.{said, saidOf}
-use Rattle.receiver.specs.Slots.{isFree, isHeld, lengthOf, markOf, offsetOf, filled, heldBytes}
-use Rattle.receiver.specs.Rules.{rules, sizesFit}
+use Rattle.terms.specs.Answers.{refusal, values, said, saidOf}
+use Rattle.slots.specs.Slots.{isFree, isHeld, lengthOf, markOf, offsetOf, filled, heldBytes}
+use Rattle.slots.specs.Rules.{rules, sizesFit}
 use Rattle.receiver.specs.Accept.{acceptSaid, Accepts, accepts}
 use Rattle.receiver.specs.Take.{takeSaid, Takes, takes}
-use Rattle.receiver.specs.declared.Answer.{Answer}
-use Rattle.receiver.specs.declared.Answer.the-variants as A
-use Rattle.receiver.specs.declared.Given.{Given}
-use Rattle.receiver.specs.declared.Given.the-variants as G
-use Rattle.receiver.proofs.Facts.{Ruled, ruled, Sized, sized}
+use Rattle.terms.specs.declared.Answer.{Answer}
+use Rattle.terms.specs.declared.Answer.the-variants as A
+use Rattle.terms.specs.declared.Given.{Given}
+use Rattle.terms.specs.declared.Given.the-variants as G
+use Rattle.slots.proofs.Facts.{Ruled, ruled, Sized, sized}
 
 -- a slot lies within the store
 pub slot-in : (slot number storeLength : ℕ) → storeLength ≡ 512 * slot → number % 512 * slot + slot ≤ storeLength

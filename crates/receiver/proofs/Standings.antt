@@ -10,9 +10,9 @@ use lib.ListN.{length, getD, take, drop, length-append, length-take, length-drop
 use lib.Seq.{ext-getD, getD-take, getD-drop, length-take-le, getD-append-add, take-at, drop-at}
 use Rattle.terms.specs.Lists.{part, _atFrontOf_}
 use Rattle.terms.proofs.Laws.{case}
-use Rattle.receiver.specs.Slots.{markOf, offsetOf, filled, heldBytes}
+use Rattle.slots.specs.Slots.{markOf, offsetOf, filled, heldBytes}
 use Rattle.receiver.specs.Meaning.{taken, held, missing, unseen, standing}
-use Rattle.receiver.specs.declared.Receiver.{Receiver}
+use Rattle.slots.specs.declared.Receiver.{Receiver}
 
 module _ (r : Receiver) (store : List ℕ) (n : ℕ) where
   pub is-taken : n < r .next .0 → standing r store n ≡ taken

@@ -6,11 +6,11 @@ use lib.Dec.{leb, ltb, eqb}
 use lib.ListN.{length, set}
 use Rattle.terms.specs.declared.SeqNo.{SeqNo}
 use Rattle.terms.specs.Ladder.{_when_else_}
-use Rattle.terms.specs.Answers.{Said, refusal, values, _unlessRefused_else_}
-use Rattle.receiver.specs.Answers.{said, Outcome}
-use Rattle.receiver.specs.Slots.{isHeld, markOf, filled}
-use Rattle.receiver.specs.Rules.{rules, sizesFit}
-use Rattle.receiver.specs.declared.Receiver.{Receiver}
+use Rattle.terms.specs.Answers.{Said, refusal, values, _unlessRefused_else_, said}
+use Rattle.slots.specs.Answers.{Outcome}
+use Rattle.slots.specs.Slots.{isHeld, markOf, filled}
+use Rattle.slots.specs.Rules.{rules, sizesFit}
+use Rattle.slots.specs.declared.Receiver.{Receiver}
 use Rattle.receiver.specs.declared.Accepted.{Accepted}
 use Rattle.receiver.specs.declared.AcceptedIn.{AcceptedIn}
 

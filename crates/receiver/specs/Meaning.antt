@@ -7,9 +7,9 @@ use lib.Dec.{leb, ltb}
 use lib.ListN.{length}
 use Rattle.terms.specs.Ladder.{_when_else_}
 use Rattle.terms.specs.Answers.{Said, refusal, values}
-use Rattle.receiver.specs.Slots.{isFree, markOf, heldBytes}
-use Rattle.receiver.specs.Rules.{rulesOf, sizesFit}
-use Rattle.receiver.specs.declared.Receiver.{Receiver}
+use Rattle.slots.specs.Slots.{isFree, markOf, heldBytes}
+use Rattle.slots.specs.Rules.{rulesOf, sizesFit}
+use Rattle.slots.specs.declared.Receiver.{Receiver}
 
 pub data Standing : Type 0 where
   -- taken, or at or below the number that the start came after: the history alone tells these two apart

@@ -6,11 +6,11 @@ use lib.Dec.{ltb}
 use lib.ListN.{length, set}
 use Rattle.terms.specs.Ladder.{_when_else_}
 use Rattle.terms.specs.Lists.{_atFrontOf_}
-use Rattle.terms.specs.Answers.{Said, refusal, values, _unlessRefused_else_}
-use Rattle.receiver.specs.Answers.{saidOf, Outcome}
-use Rattle.receiver.specs.Slots.{isFree, lengthOf, markOf, heldBytes}
-use Rattle.receiver.specs.Rules.{rules, sizesFit}
-use Rattle.receiver.specs.declared.Receiver.{Receiver}
+use Rattle.terms.specs.Answers.{Said, refusal, values, _unlessRefused_else_, saidOf}
+use Rattle.slots.specs.Answers.{Outcome}
+use Rattle.slots.specs.Slots.{isFree, lengthOf, markOf, heldBytes}
+use Rattle.slots.specs.Rules.{rules, sizesFit}
+use Rattle.slots.specs.declared.Receiver.{Receiver}
 use Rattle.receiver.specs.declared.Taken.{Taken}
 use Rattle.receiver.specs.declared.TakenIn.{TakenIn}
 

@@ -1,8 +1,4 @@
--- What belongs to no one function: the numbers as the code finds them, the loops over the table, what the calls leave, and that the
--- promises determine their results.
-pub mod Search
-pub mod Tables
+-- What belongs to no one function: the number at a rank, what the calls leave, and that the promises determine their results.
+pub mod Ranks
 pub mod Outcomes
-pub mod Expiry
-pub mod Resending
 pub mod Determined

@@ -6,13 +6,12 @@ use lib.Dec.{leb, ltb}
 use lib.ListN.{length}
 use Rattle.terms.specs.Ladder.{_when_else_}
 use Rattle.terms.specs.Lists.{_atFrontOf_}
-use Rattle.terms.specs.Answers.{Said, refusal, values, _unlessRefused_else_}
-use Rattle.receiver.specs.Answers.{saidOf}
-use Rattle.receiver.specs.declared.Given.{Given}
+use Rattle.terms.specs.Answers.{Said, refusal, values, _unlessRefused_else_, saidOf}
+use Rattle.terms.specs.declared.Given.{Given}
 use Rattle.places.specs.Table.{_!_}
 use Rattle.places.specs.Rules.{rules, sizesFit}
 use Rattle.places.specs.declared.Sender.{Sender}
-use Rattle.sender.specs.Numbers.{inFlight, sizeOf, packetOf}
+use Rattle.places.specs.Numbers.{inFlight, sizeOf, packetOf}
 
 -- the answer, by document 01's numbers in its order; rank 0 is the lowest number in flight
 unfoldable pub fetchSaid : Sender → ℕ → ℕ → ℕ → Said

@@ -1,7 +1,4 @@
--- The definitions that the promises cite: the table by number, and what each call does.
-pub mod Numbers
+-- The definitions that the promises cite: what each call does.
 pub mod Fetch
 pub mod Send
-pub mod Acks
-pub mod Resend
 pub mod Steps

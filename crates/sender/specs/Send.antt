@@ -10,12 +10,12 @@ use Rattle.terms.specs.Refusals.{numberOf}
 use Rattle.terms.specs.Answers.{Said, refusal, values, _unlessRefused_else_}
 use Rattle.timer.specs.Timer.{rtoOf}
 use Rattle.places.specs.Table.{_!_, countOf, placeOf}
-use Rattle.places.specs.Rules.{rules, sizesFit}
-use Rattle.places.specs.Start.{Outcome}
+use Rattle.places.specs.Rules.{rules, sizesFit, clockWrong}
+use Rattle.places.specs.Answers.{Outcome}
 use Rattle.places.specs.declared.Sender.{Sender}
 use Rattle.places.specs.declared.Timer.{Timer}
 use Rattle.places.specs.declared.Timer.the-variants as T
-use Rattle.sender.specs.Numbers.{waiting, sizeOf, packetOf, clockWrong}
+use Rattle.places.specs.Numbers.{waiting, sizeOf, packetOf}
 use Rattle.sender.specs.declared.Departure.{Departure}
 use Rattle.sender.specs.declared.Departure.the-variants as D
 use Rattle.sender.specs.declared.Sent.{Sent}

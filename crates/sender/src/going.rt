@@ -18,13 +18,13 @@ pub(super) fn judge_send(s: Sender, clock: u64, store_length: usize, room: usize
     let next = s.next.0;
     let last = s.clock;
     let window = s.window;
-    if !places::valid(s) {
+    if !rules::valid(s) {
         return Departure::Refused(Refusal::StateBroken);
     }
     if !places::sizes_fit(chunk, count, store_length) {
         return Departure::Refused(Refusal::SizeWrong);
     }
-    if table::clock_wrong(last, clock) {
+    if places::clock_wrong(last, clock) {
         return Departure::Refused(Refusal::ClockWrong);
     }
     let number = table::ranked(&s.numbers, &s.marks, 1, 0, next);

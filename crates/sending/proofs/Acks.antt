@@ -14,13 +14,12 @@ use Rattle.terms.proofs.Laws.{past}
 use Rattle.receiver.proofs.Laws.{by-said}
 use Rattle.ack.specs.Missing.{ascending}
 use Rattle.places.specs.Table.{isFlying, placeOf}
-use Rattle.places.specs.Rules.{rules, countsFit}
-use Rattle.places.specs.Start.{Outcome}
+use Rattle.places.specs.Rules.{rules, countsFit, clockWrong}
+use Rattle.places.specs.Answers.{Outcome}
 use Rattle.places.specs.declared.Sender.{Sender}
-use Rattle.sender.specs.Numbers.{clockWrong}
-use Rattle.sender.specs.Acks.{ackedAt, ackedOf, acksRefusal, sampleOf, timedBy, grownBy, acksLeave, acksOf}
-use Rattle.sender.specs.Resend.{isIn}
-use Rattle.sender.proofs.Outcomes.{clock-fair}
+use Rattle.acks.specs.Acks.{ackedAt, ackedOf, acksRefusal, sampleOf, timedBy, grownBy, acksLeave, acksOf}
+use Rattle.resend.specs.Resend.{isIn}
+use Rattle.places.proofs.Facts.{clock-fair}
 use Rattle.sending.specs.Meaning.{markOf, standing, doesFly, Sound}
 use Rattle.sending.specs.Steps.{isFair, isNamed, ackedAs}
 use Rattle.sending.proofs.Counts.{by-bool, fair-rung, run-has, run-ascending}

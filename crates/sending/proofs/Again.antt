@@ -12,14 +12,14 @@ use Rattle.terms.specs.Lists.{all}
 use Rattle.terms.proofs.Laws.{case, and-left, and-right, and-both}
 use Rattle.timer.specs.Timer.{timingFits, rtoOf}
 use Rattle.timer.specs.declared.Timing.{Timing}
-use Rattle.places.specs.Table.{_!_, isFlying, differs, placeOf}
+use Rattle.places.specs.Table.{_!_, isFlying, differs, placeOf, replaced}
 use Rattle.places.specs.Rules.{timerFits, stateOf}
 use Rattle.places.specs.declared.Sender.{Sender}
 use Rattle.places.specs.declared.Timer.{Timer}
 use Rattle.places.proofs.Facts.{Ruled, rules-of}
-use Rattle.sender.specs.Numbers.{inFlight, replaced}
-use Rattle.sender.specs.Resend.{runWhile, aged, expiredOf, isEmpty, isIn}
-use Rattle.sender.proofs.Tables.{replaced-at}
+use Rattle.places.specs.Numbers.{inFlight}
+use Rattle.resend.specs.Resend.{runWhile, aged, expiredOf, isEmpty, isIn}
+use Rattle.places.proofs.Replaced.{replaced-at}
 use Rattle.sending.specs.Meaning.{Standing, unmade, waits, flies, gone, markOf, standing, doesFly, Sound}
 use Rattle.sending.specs.Steps.{goesAgain, resentAs}
 use Rattle.sending.proofs.Counts.{by-bool, none-in}

@@ -14,11 +14,11 @@ use Rattle.terms.specs.Lists.{all}
 use Rattle.terms.proofs.Laws.{case, rung, and-both}
 use Rattle.terms.specs.Answers.{Said, refusal}
 use Rattle.ack.specs.Missing.{ascending}
-use Rattle.places.specs.Table.{_!_, countOf, placeOf}
-use Rattle.sender.specs.Numbers.{run, numbersAt, markedWith, replaced}
-use Rattle.sender.specs.Resend.{isEmpty, isIn}
-use Rattle.sender.proofs.Search.{beyond, place-is, run-none}
-use Rattle.sender.proofs.Resending.{in-run, not-in}
+use Rattle.places.specs.Table.{_!_, countOf, placeOf, replaced}
+use Rattle.places.specs.Numbers.{run, numbersAt, markedWith}
+use Rattle.resend.specs.Resend.{isEmpty, isIn}
+use Rattle.places.proofs.Runs.{beyond, run-none, in-run, not-in}
+use Rattle.places.proofs.Search.{place-is}
 use Rattle.sending.specs.Steps.{isFair}
 
 -- a test that was judged

@@ -19,8 +19,8 @@ use Rattle.ack.specs.Missing.{ascending}
 use Rattle.ack.proofs.Among.{ascending-take}
 use Rattle.places.specs.Table.{isWaiting, isFlying, placeOf}
 use Rattle.places.specs.declared.Sender.{Sender}
-use Rattle.sender.specs.Numbers.{run, markedWith, inFlight}
-use Rattle.sender.specs.Resend.{runWhile, aged, expiredOf, isIn}
+use Rattle.places.specs.Numbers.{run, markedWith, inFlight}
+use Rattle.resend.specs.Resend.{runWhile, aged, expiredOf, isIn}
 use Rattle.sending.specs.Meaning.{Standing, unmade, waits, flies, gone, markOf, sentOf, standing, doesFly}
 use Rattle.sending.specs.Steps.{isOld, IsExpired}
 use Rattle.sending.proofs.Counts.{by-bool, run-within, run-ascending}

@@ -16,9 +16,9 @@ use Rattle.terms.specs.Answers.{refusal, values}
 use Rattle.places.specs.Table.{_!_, placeOf}
 use Rattle.places.specs.Rules.{rules, sizesFit}
 use Rattle.places.specs.declared.Sender.{Sender}
-use Rattle.sender.specs.Numbers.{inFlight, sizeOf, packetOf}
+use Rattle.places.specs.Numbers.{inFlight, sizeOf, packetOf}
 use Rattle.sender.specs.Fetch.{fetchSaid, fetchOf}
-use Rattle.sender.proofs.Outcomes.{Ranked, ranked-of}
+use Rattle.sender.proofs.Ranks.{Ranked, ranked-of}
 use Rattle.sending.specs.Meaning.{flies, standing, Sound}
 use Rattle.sending.specs.Steps.{isFair}
 use Rattle.sending.proofs.Counts.{fair-rung}

@@ -10,13 +10,12 @@ use Rattle.terms.proofs.Laws.{and-left, and-right}
 use Rattle.timer.specs.Timer.{timingFits}
 use Rattle.timer.specs.declared.Timing.{Timing}
 use Rattle.timer.proofs.Laws.{sampled-fits, grown-least, grown-most}
-use Rattle.places.specs.Table.{_!_, isFlying}
+use Rattle.places.specs.Table.{_!_, isFlying, replaced}
 use Rattle.places.specs.Rules.{timerFits}
 use Rattle.places.specs.declared.Sender.{Sender}
 use Rattle.places.proofs.Facts.{Ruled, rules-of}
-use Rattle.sender.specs.Numbers.{replaced}
-use Rattle.sender.specs.Acks.{ackedAt, timedBy, grownBy, freedBy}
-use Rattle.sender.proofs.Tables.{replaced-length, replaced-at}
+use Rattle.acks.specs.Acks.{ackedAt, timedBy, grownBy, freedBy}
+use Rattle.places.proofs.Replaced.{replaced-length, replaced-at}
 use Rattle.sending.specs.Meaning.{Standing, unmade, waits, flies, gone, standing, doesFly, Sound}
 use Rattle.sending.specs.Steps.{isNamed, ackedAs}
 use Rattle.sending.proofs.Counts.{by-bool, count-freed}

@@ -13,8 +13,8 @@ use Rattle.terms.specs.declared.StreamId.{StreamId}
 use Rattle.terms.specs.Ladder.{_when_else_}
 use Rattle.terms.proofs.Laws.{and-left, and-right, and-both}
 use Rattle.terms.specs.Answers.{values}
-use Rattle.receiver.specs.Rules.{rulesOf, slotFits}
-use Rattle.receiver.specs.declared.Receiver.{Receiver}
+use Rattle.slots.specs.Rules.{rulesOf, slotFits}
+use Rattle.slots.specs.declared.Receiver.{Receiver}
 use Rattle.places.specs.declared.Sender.{Sender}
 use Rattle.submit.specs.Submit.{submitOf}
 use Rattle.submit.specs.Chunks.{dataPacket}

@@ -13,8 +13,8 @@ use Rattle.terms.proofs.Laws.{case}
 use Rattle.terms.specs.Answers.{values}
 use Rattle.receiver.proofs.Laws.{by-said}
 use Rattle.sender.specs.Send.{sendOf}
-use Rattle.sender.specs.Acks.{acksOf}
-use Rattle.sender.specs.Resend.{resendOf}
+use Rattle.acks.specs.Acks.{acksOf}
+use Rattle.resend.specs.Resend.{resendOf}
 use Rattle.submit.specs.Submit.{submitOf}
 use Rattle.submit.specs.Chunks.{chunksOf}
 use Rattle.sending.specs.Meaning.{gone, standing, doesWait, doesFly, Sound}

@@ -14,16 +14,16 @@ use Rattle.timer.specs.Timer.{rtoOf, timingFits}
 use Rattle.timer.specs.Window.{fallenOf}
 use Rattle.timer.specs.declared.Timing.the-variants as G
 use Rattle.timer.proofs.Laws.{rto-most, fallen-least, fallen-most}
-use Rattle.places.specs.Table.{_!_}
-use Rattle.places.specs.Rules.{timerFits, rules, countsFit}
-use Rattle.places.specs.Start.{Outcome}
+use Rattle.places.specs.Table.{_!_, replaced}
+use Rattle.places.specs.Rules.{timerFits, rules, countsFit, clockWrong}
+use Rattle.places.specs.Answers.{Outcome}
 use Rattle.places.specs.declared.Sender.{Sender}
 use Rattle.places.specs.declared.Timer.{Timer}
 use Rattle.places.specs.declared.Timer.the-variants as T
-use Rattle.sender.specs.Numbers.{inFlight, replaced, clockWrong}
-use Rattle.sender.specs.Resend.{isDue, resendRefusal, expiredOf, isEmpty, isIn, timedAt, resentBy, resendLeaves, resendCount, resendOf}
-use Rattle.sender.proofs.Tables.{replaced-length, replaced-at}
-use Rattle.sender.proofs.Outcomes.{clock-fair}
+use Rattle.places.specs.Numbers.{inFlight}
+use Rattle.resend.specs.Resend.{isDue, resendRefusal, expiredOf, isEmpty, isIn, timedAt, resentBy, resendLeaves, resendCount, resendOf}
+use Rattle.places.proofs.Replaced.{replaced-length, replaced-at}
+use Rattle.places.proofs.Facts.{clock-fair}
 use Rattle.sending.specs.Meaning.{standing, Sound}
 use Rattle.sending.specs.Steps.{isFair, goesAgain, resentAs}
 use Rattle.sending.proofs.Counts.{by-bool, fair-rung, none-in}

@@ -18,12 +18,14 @@ use Rattle.receiver.proofs.Laws.{by-said}
 use Rattle.timer.specs.Timer.{rtoOf}
 use Rattle.timer.proofs.Laws.{rto-most}
 use Rattle.places.specs.Table.{_!_, placeOf}
-use Rattle.places.specs.Rules.{timerFits}
+use Rattle.places.specs.Rules.{timerFits, clockWrong}
 use Rattle.places.specs.declared.Sender.{Sender}
-use Rattle.sender.specs.Numbers.{markedWith, waiting, inFlight, sizeOf, packetOf, clockWrong}
-use Rattle.sender.specs.Resend.{isEmpty}
+use Rattle.places.specs.Numbers.{markedWith, waiting, inFlight, sizeOf, packetOf}
+use Rattle.resend.specs.Resend.{isEmpty}
 use Rattle.sender.specs.Send.{sendSaid, armed, departed, sendOf}
-use Rattle.sender.proofs.Outcomes.{run-passes, run-below, Leaves, leaves, Ranked, ranked-of, send-refused, send-done}
+use Rattle.places.proofs.Runs.{run-passes, run-below}
+use Rattle.sender.proofs.Outcomes.{Leaves, leaves, send-refused, send-done}
+use Rattle.sender.proofs.Ranks.{Ranked, ranked-of}
 use Rattle.sending.specs.Meaning.{waits, standing, doesWait, Sound}
 use Rattle.sending.specs.Steps.{isFair, sentAs}
 use Rattle.sending.proofs.Counts.{none-in, fair-rung, run-lowest}

@@ -13,11 +13,11 @@ use Rattle.terms.proofs.Laws.{case, and-left}
 use Rattle.places.specs.Table.{_!_, isWaiting, isFlying, countOf, placeOf}
 use Rattle.places.specs.Rules.{countsFit, sizesFit}
 use Rattle.places.specs.declared.Sender.{Sender}
-use Rattle.places.proofs.Facts.{Ruled, ruled}
-use Rattle.sender.specs.Numbers.{run, markedWith, waiting, inFlight, bytesAt, packetOf}
-use Rattle.sender.specs.Resend.{isIn}
-use Rattle.sender.proofs.Search.{beyond, place-is, stored}
-use Rattle.sender.proofs.Outcomes.{tidy, packet-in}
+use Rattle.places.proofs.Facts.{Ruled, ruled, packet-in}
+use Rattle.places.specs.Numbers.{run, markedWith, waiting, inFlight, bytesAt, packetOf}
+use Rattle.resend.specs.Resend.{isIn}
+use Rattle.places.proofs.Runs.{beyond}
+use Rattle.places.proofs.Search.{place-is, stored, tidy}
 use Rattle.sending.specs.Meaning.{Standing, unmade, waits, flies, gone, markOf, sentOf, standing, doesWait, doesFly, Sound}
 use Rattle.sending.proofs.Counts.{by-bool, run-has, marked-count}
 
@@ -126,7 +126,7 @@ module _ (s : Sender) (store : List ℕ) (sound : Sound s store) where
   -- a packet is as long as its place says
   pub place-long : (i : ℕ) → i < 192 → (s .marks ! i ≡ 0 → ⊥) → length (bytesAt (s .chunk) i (s .lengths ! i) store) ≡ s .lengths ! i
   place-long i h o =
-      let inside = packet-in s (sound .numbers-long) (sound .marks-long) (omega (arith, sound .width)) facts (length store) i (sound .fits) h o in
+      let inside = packet-in s (sound .marks-long) facts (length store) i (sound .fits) h o in
       simp (length-take, length-drop) (omega arith)
 
   -- as many numbers wait, and are in flight, as places are marked so

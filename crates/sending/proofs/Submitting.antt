@@ -13,16 +13,16 @@ use Rattle.terms.specs.Ladder.{_when_else_}
 use Rattle.terms.specs.Lists.{joined}
 use Rattle.terms.proofs.Laws.{case}
 use Rattle.terms.specs.Answers.{refusal, values}
-use Rattle.receiver.specs.Rules.{rulesOf, slotFits}
-use Rattle.receiver.specs.declared.Receiver.{Receiver}
+use Rattle.slots.specs.Rules.{rulesOf, slotFits}
+use Rattle.slots.specs.declared.Receiver.{Receiver}
 use Rattle.receiver.proofs.Laws.{by-said}
 use Rattle.ack.specs.Missing.{missingFrom}
 use Rattle.ack.specs.Fields.{atLeast255, ackThrough, fieldsFrom, nacksFrom}
 use Rattle.ack.proofs.Ways.{nacks-few, packet-long, packet-most}
 use Rattle.places.specs.Table.{countOf}
 use Rattle.places.specs.declared.Sender.{Sender}
-use Rattle.sender.specs.Numbers.{waiting}
-use Rattle.sender.specs.Resend.{isEmpty}
+use Rattle.places.specs.Numbers.{waiting}
+use Rattle.resend.specs.Resend.{isEmpty}
 use Rattle.submit.specs.Chunks.{chunksOf, dataPacket, storedBy}
 use Rattle.submit.specs.Submit.{freeOf, submitSaid, submitOf}
 use Rattle.submit.proofs.Ways.{chunks-some, Made, made}

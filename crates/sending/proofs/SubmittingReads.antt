@@ -12,8 +12,8 @@ use Rattle.wire.specs.BigEndian.{numbersAt}
 use Rattle.packet.specs.Flags.{bit}
 use Rattle.packet.specs.Reading.{nackCount, readOf, payloadOf}
 use Rattle.terms.specs.Answers.{values}
-use Rattle.receiver.specs.Rules.{rulesOf}
-use Rattle.receiver.specs.declared.Receiver.{Receiver}
+use Rattle.slots.specs.Rules.{rulesOf}
+use Rattle.slots.specs.declared.Receiver.{Receiver}
 use Rattle.ack.specs.Missing.{missingFrom}
 use Rattle.ack.specs.Fields.{atLeast255, fieldsFrom, ackFieldsOf, ackNacksOf, ackThroughOf}
 use Rattle.ack.proofs.Carried.{Carries, acked-reads, through-read}

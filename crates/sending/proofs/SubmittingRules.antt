@@ -10,7 +10,7 @@ use Rattle.terms.proofs.Laws.{case}
 use Rattle.places.specs.Table.{_!_}
 use Rattle.places.specs.declared.Sender.{Sender}
 use Rattle.places.proofs.Facts.{Ruled}
-use Rattle.sender.proofs.Search.{place-is}
+use Rattle.places.proofs.Search.{place-is}
 use Rattle.submit.specs.Chunks.{lowestFree, joinedBy, laidAt}
 use Rattle.submit.specs.Submit.{freeOf}
 use Rattle.submit.proofs.Storing.{free-place}

@@ -13,8 +13,9 @@ use Rattle.receiver.proofs.Standings.{part-same, laid-length, laid-here, laid-b
 use Rattle.places.specs.Table.{_!_, placeOf}
 use Rattle.places.specs.declared.Sender.{Sender}
 use Rattle.places.proofs.Facts.{rules-of, sized}
-use Rattle.sender.specs.Numbers.{sizeOf, offsetOf, packetOf}
-use Rattle.sender.proofs.Search.{beyond, place-is}
+use Rattle.places.specs.Numbers.{sizeOf, offsetOf, packetOf}
+use Rattle.places.proofs.Runs.{beyond}
+use Rattle.places.proofs.Search.{place-is}
 use Rattle.submit.specs.Chunks.{lowestFree}
 use Rattle.submit.specs.Submit.{freeOf}
 use Rattle.submit.proofs.Storing.{free-fewer}

@@ -13,7 +13,7 @@ use lib.ListN.{length, getD, take, drop, length-take}
 use Rattle.terms.proofs.Laws.{case}
 use Rattle.places.specs.Table.{placeOf}
 use Rattle.places.specs.declared.Sender.{Sender}
-use Rattle.sender.specs.Numbers.{sizeOf, offsetOf}
+use Rattle.places.specs.Numbers.{sizeOf, offsetOf}
 use Rattle.submit.specs.Chunks.{lowestFree, Stored, storedBy}
 use Rattle.submit.specs.Steps.{Roomy}
 use Rattle.sending.specs.Meaning.{Standing, waits, standing, Sound}

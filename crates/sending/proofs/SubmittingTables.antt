@@ -9,7 +9,7 @@ use lib.ListN.{length, set, length-set}
 use lib.Seq.{getD-set-same, getD-set-other}
 use Rattle.terms.proofs.Laws.{case}
 use Rattle.places.specs.Table.{_!_, countOf, placeOf}
-use Rattle.sender.proofs.Search.{place-is, place-first}
+use Rattle.places.proofs.Search.{place-is, place-first}
 
 -- a number that stood elsewhere, or nowhere, has the place that it had
 pub place-other : (l : List ℕ) (p v n : ℕ) → (l ! p ≡ n → ⊥) → (v ≡ n → ⊥) → placeOf (set l p v) n ≡ placeOf l n

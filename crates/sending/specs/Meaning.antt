@@ -10,7 +10,7 @@ use Rattle.terms.specs.Ladder.{_when_else_}
 use Rattle.places.specs.Table.{_!_, isWaiting, isFlying, placeOf}
 use Rattle.places.specs.Rules.{rules, sizesFit}
 use Rattle.places.specs.declared.Sender.{Sender}
-use Rattle.sender.specs.Numbers.{packetOf}
+use Rattle.places.specs.Numbers.{packetOf}
 
 pub data Standing : Type 0 where
   -- the next number, or one above it: no packet was made for it

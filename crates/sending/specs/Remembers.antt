@@ -9,8 +9,8 @@ use lib.Dec.{leb, ltb, eqb}
 use lib.ListN.{length, getD}
 use Rattle.terms.specs.Ladder.{_when_else_}
 use Rattle.terms.specs.Answers.{Said, refusal, values}
-use Rattle.receiver.specs.Rules.{rulesOf, slotFits}
-use Rattle.receiver.specs.declared.Receiver.{Receiver}
+use Rattle.slots.specs.Rules.{rulesOf, slotFits}
+use Rattle.slots.specs.declared.Receiver.{Receiver}
 use Rattle.places.specs.Table.{_unless_}
 use Rattle.submit.specs.Chunks.{dataPacket}
 use Rattle.sending.specs.Meaning.{Standing, unmade, waits, gone, packetIn, doesFly, standing, Sound}

@@ -9,12 +9,12 @@ use lib.ListN.{length}
 use Rattle.terms.specs.declared.SeqNo.{SeqNo}
 use Rattle.terms.specs.declared.StreamId.{StreamId}
 use Rattle.terms.specs.Answers.{Said, values}
-use Rattle.receiver.specs.declared.Receiver.{Receiver}
+use Rattle.slots.specs.declared.Receiver.{Receiver}
 use Rattle.places.specs.Start.{startOf}
 use Rattle.places.specs.declared.Sender.{Sender}
 use Rattle.sender.specs.Send.{sendOf}
-use Rattle.sender.specs.Acks.{acksOf}
-use Rattle.sender.specs.Resend.{resendOf}
+use Rattle.acks.specs.Acks.{acksOf}
+use Rattle.resend.specs.Resend.{resendOf}
 use Rattle.sender.specs.Fetch.{fetchOf}
 use Rattle.submit.specs.Submit.{submitOf}
 

@@ -11,8 +11,8 @@ use Rattle.terms.specs.Answers.{Said, refusal, values}
 use Rattle.timer.specs.Timer.{rtoOf}
 use Rattle.places.specs.Table.{differs, placeOf}
 use Rattle.places.specs.declared.Sender.{Sender}
-use Rattle.sender.specs.Numbers.{run, sizeOf, offsetOf}
-use Rattle.sender.specs.Resend.{expiredOf, isIn}
+use Rattle.places.specs.Numbers.{run, sizeOf, offsetOf}
+use Rattle.resend.specs.Resend.{expiredOf, isIn}
 use Rattle.sending.specs.Meaning.{Standing, unmade, waits, flies, gone, standing, doesFly}
 
 -- an answer that blames neither the state's rules nor the sizes

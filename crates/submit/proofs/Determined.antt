@@ -4,10 +4,10 @@ use mathlib.Core.Path.{_≡_, ap}
 use mathlib.Core.List.{List}
 use Rattle.terms.specs.declared.StreamId.{StreamId}
 use Rattle.terms.proofs.Determined.{determined}
-use Rattle.receiver.specs.declared.Receiver.{Receiver}
-use Rattle.places.specs.Start.{Outcome}
+use Rattle.slots.specs.declared.Receiver.{Receiver}
+use Rattle.places.specs.Answers.{Outcome}
 use Rattle.places.specs.declared.Sender.{Sender}
-use Rattle.sender.proofs.Determined.{tally-one}
+use Rattle.places.proofs.Determined.{tally-one}
 use Rattle.submit.specs.Submit.{submitOf, submittedOut}
 use Rattle.submit.specs.declared.Submitted.{Submitted}
 

@@ -13,7 +13,7 @@ use Rattle.terms.proofs.Laws.{case}
 use Rattle.places.specs.Table.{countOf, placeOf}
 use Rattle.places.specs.Rules.{stateOf}
 use Rattle.places.specs.declared.Sender.{Sender}
-use Rattle.sender.specs.Numbers.{offsetOf}
+use Rattle.places.specs.Numbers.{offsetOf}
 use Rattle.submit.specs.Chunks.{laidAt, Stored, storedBy}
 use Rattle.submit.specs.Steps.{Roomy}
 

@@ -21,8 +21,8 @@ use Rattle.writer.specs.declared.Writing.{Writing}
 use Rattle.writer.specs.declared.Writing.the-variants as W
 use Rattle.writer.proofs.Passed.{refusal-of}
 use Rattle.terms.specs.Answers.{refusal, values}
-use Rattle.receiver.specs.Rules.{rulesOf, slotFits}
-use Rattle.receiver.specs.declared.Receiver.{Receiver}
+use Rattle.slots.specs.Rules.{rulesOf, slotFits}
+use Rattle.slots.specs.declared.Receiver.{Receiver}
 use Rattle.ack.specs.Missing.{missingFrom}
 use Rattle.ack.specs.Fields.{atLeast255, fieldsFrom, nacksFrom, ackFieldsOf, ackNacksOf}
 use Rattle.ack.specs.Acknowledge.{ackedFields}
@@ -30,12 +30,11 @@ use Rattle.ack.specs.declared.AckFields.{AckFields}
 use Rattle.ack.proofs.Ways.{fieldsBy, packet-most, packet-written, nacks-few}
 use Rattle.places.specs.Table.{countOf}
 use Rattle.places.specs.Rules.{rules, sizesFit}
-use Rattle.places.specs.Start.{Outcome}
+use Rattle.places.specs.Answers.{Outcome, saidTally}
 use Rattle.places.specs.declared.Sender.{Sender}
 use Rattle.places.proofs.Facts.{sized}
-use Rattle.sender.specs.Acks.{saidTally}
-use Rattle.sender.specs.declared.Tally.{Tally}
-use Rattle.sender.specs.declared.Tally.the-variants as Y
+use Rattle.places.specs.declared.Tally.{Tally}
+use Rattle.places.specs.declared.Tally.the-variants as Y
 use Rattle.submit.specs.Chunks.{chunksOf, dataPacket, Stored, storedBy}
 use Rattle.submit.specs.Submit.{freeOf, submitSaid, submitOf}
 use Rattle.submit.specs.Steps.{ackedPacket, Acking, Roomy}

@@ -5,12 +5,12 @@ use lib.ListN.{length, set, take, drop}
 use Rattle.terms.specs.Lists.{_atFrontOf_}
 use Rattle.terms.specs.declared.StreamId.{StreamId}
 use Rattle.writer.specs.Writing.{packetBytes}
-use Rattle.receiver.specs.declared.Receiver.{Receiver}
+use Rattle.slots.specs.declared.Receiver.{Receiver}
 use Rattle.ack.specs.Fields.{ackFieldsOf, ackNacksOf}
 use Rattle.ack.specs.Acknowledge.{ackedFields}
 use Rattle.places.specs.Table.{placeOf}
 use Rattle.places.specs.declared.Sender.{Sender}
-use Rattle.sender.specs.Numbers.{offsetOf}
+use Rattle.places.specs.Numbers.{offsetOf}
 
 -- how many chunks so many bytes make; the last may be shorter
 abbrev pub chunksOf : ℕ → ℕ → ℕ

@@ -7,13 +7,12 @@ use lib.ListN.{length, take}
 use Rattle.terms.specs.Ladder.{_when_else_}
 use Rattle.terms.specs.declared.StreamId.{StreamId}
 use Rattle.terms.specs.Answers.{Said, refusal, values, _unlessRefused_else_}
-use Rattle.receiver.specs.Rules.{rulesOf, slotFits}
-use Rattle.receiver.specs.declared.Receiver.{Receiver}
+use Rattle.slots.specs.Rules.{rulesOf, slotFits}
+use Rattle.slots.specs.declared.Receiver.{Receiver}
 use Rattle.places.specs.Table.{countOf}
 use Rattle.places.specs.Rules.{rules, sizesFit}
-use Rattle.places.specs.Start.{Outcome}
+use Rattle.places.specs.Answers.{Outcome, saidTally}
 use Rattle.places.specs.declared.Sender.{Sender}
-use Rattle.sender.specs.Acks.{saidTally}
 use Rattle.submit.specs.Chunks.{chunksOf, dataPacket, Stored, storedBy}
 use Rattle.submit.specs.declared.Submitted.{Submitted}
 

@@ -5,17 +5,17 @@ ghost use mathlib.Core.Bool.{true, _&&_, _||_};
 ghost use Prim.Native.Nat.{_+_, _≤_, min};
 ghost use lib.Dec.{eqb, ltb};
 ghost use lib.ListN.{length};
-ghost use Rattle.receiver.specs.Rules.{rulesOf, slotFits};
+ghost use Rattle.slots.specs.Rules.{rulesOf, slotFits};
 ghost use Rattle.places.specs.Rules.{rules, sizesFit};
-ghost use Rattle.sender.specs.Numbers.{offsetOf};
-ghost use Rattle.sender.specs.Acks.{saidTally};
+ghost use Rattle.places.specs.Numbers.{offsetOf};
+ghost use Rattle.places.specs.Answers.{saidTally};
 ghost use Rattle.submit.specs.Chunks.{chunksOf, dataPacket, laidAt, storedBy};
 ghost use Rattle.submit.specs.Submit.{submitSaid, submitOf, submittedOut};
 ghost use Rattle.submit.specs.Steps.{ackedPacket, Acking, Roomy};
 use ack::AckFields;
 use places::Sender;
-use receiver::Receiver;
-use sender::Tally;
+use places::Tally;
+use slots::Receiver;
 use terms::Refusal;
 use terms::SeqNo;
 use terms::StreamId;
@@ -32,10 +32,10 @@ pub struct Submitted {
 fn both_keep(s: Sender, r: Receiver) -> bool
     ensures { λ b. ⌜ b ≡ (rules s && rulesOf r) ⌝ }
 {
-    if !places::valid(s) {
+    if !rules::valid(s) {
         return false;
     }
-    receiver::rules_hold(r.slot, r.next.0, r.highest.0, &r.marks)
+    slots::rules_hold(r.slot, r.next.0, r.highest.0, &r.marks)
 }
 
 // Whether the sender's sizes fit with its store, and the receiver's slot size, whose store is not lent.
@@ -45,7 +45,7 @@ fn both_fit(chunk: u32, count: u32, store_length: usize, slot: u32) -> bool
     if !places::sizes_fit(chunk, count, store_length) {
         return false;
     }
-    receiver::slot_fits(slot)
+    slots::slot_fits(slot)
 }
 
 // Whether a length is none or above the most that is submitted at once.

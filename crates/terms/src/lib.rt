@@ -1,4 +1,5 @@
-// The words of document 01 that every layer above uses: the two kinds of number that are never mixed up, and the refusals.
+// The words of document 01 that every layer above uses: the two kinds of number that are never mixed up, the refusals, and the
+// answers that calls of both halves give.
 ghost use mathlib.Core.Path.{_≡_};
 ghost use Rattle.terms.specs.Refusals.{numberOf};
 
@@ -97,4 +98,16 @@ impl Refusal {
             Refusal::TimerEarly => 25,
         }
     }
+}
+
+// What a call answers that gives nothing beside its state.
+pub enum Answer {
+    Done,
+    Refused(Refusal),
+}
+
+// What a call answers that copies bytes out: how many.
+pub enum Given {
+    Bytes(usize),
+    Refused(Refusal),
 }

@@ -3,8 +3,8 @@ ghost use mathlib.Core.Path.{_≡_};
 ghost use Rattle.receiver.specs.Accept.{acceptOf, accepted};
 ghost use Rattle.receiver.specs.Take.{takeOf, took};
 use receiver::Accepted;
-use receiver::Receiver;
 use receiver::Taken;
+use slots::Receiver;
 use terms::SeqNo;
 
 pub fn accept(r: Receiver, number: SeqNo, payload: &[u8], store: &mut [u8]) -> Accepted

@@ -7,7 +7,7 @@ mod tally;
 use lines::part;
 use lines::say;
 use packets::Payload;
-use receiver::Receiver;
+use slots::Receiver;
 use tally::Tally;
 use terms::SeqNo;
 
@@ -126,7 +126,7 @@ fn report(done: Run, mine: &Store) {
 fn main() {
     let mut mine = [0u8; 8192];
     let mut theirs = [0u8; 8192];
-    let started = receiver::start(SeqNo(0), 16, &mine);
+    let started = slots::start(SeqNo(0), 16, &mine);
     let fresh = started.state;
     let nothing = tally::empty();
     let begun = Run {

@@ -1,7 +1,7 @@
 // Whether two answers say the same, and two states are the same.
-use receiver::Answer;
-use receiver::Given;
-use receiver::Receiver;
+use slots::Receiver;
+use terms::Answer;
+use terms::Given;
 
 // The refusal's number, or 0.
 pub fn refusal(a: Answer) -> u32 {

@@ -2,8 +2,8 @@
 use mathlib.Core.Bool.{true}
 use mathlib.Core.Path.{_≡_, refl}
 use Rattle.writer.specs.Writing.{packetBytes}
-use Rattle.receiver.specs.Rules as R
-use Rattle.receiver.specs.Start.{startSaid}
+use Rattle.slots.specs.Rules as R
+use Rattle.slots.specs.Start.{startSaid}
 use Rattle.receiver.specs.Accept.{acceptSaid, accepts}
 use Rattle.receiver.specs.Take.{takeSaid, takes}
 use Rattle.ack.specs.Missing.{missingFrom}
@@ -12,8 +12,9 @@ use Rattle.ack.specs.Acknowledge.{plainAck, acknowledgeSaid, acknowledges}
 use Rattle.timer.specs.Timer.{sampledOf, rtoOf, timingFits}
 use Rattle.timer.specs.Window.{grownOf, fallenOf}
 use Rattle.places.specs.Rules as P
-use Rattle.sender.specs.Numbers.{run, clockWrong}
-use Rattle.sender.specs.Resend.{isDue, resendRefusal, resendOf}
+use Rattle.places.specs.Numbers.{run}
+use Rattle.places.specs.Rules.{clockWrong}
+use Rattle.resend.specs.Resend.{isDue, resendRefusal, resendOf}
 use Rattle.worked.specs.Lines.{holds, allHold}
 use Rattle.worked.specs.Table.{table}
 

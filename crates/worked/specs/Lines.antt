@@ -12,10 +12,10 @@ use Rattle.timer.specs.Window.{grownOf}
 use Rattle.timer.specs.declared.Timing.{Timing}
 use Rattle.timer.specs.declared.Timing.the-variants as G
 use Rattle.places.specs.Rules.{stateOf}
-use Rattle.places.specs.Start.{Outcome}
+use Rattle.places.specs.Answers.{Outcome}
 use Rattle.places.specs.declared.Sender.{Sender}
 use Rattle.places.specs.declared.Timer.the-variants as T
-use Rattle.sender.specs.Resend.{resendOf}
+use Rattle.resend.specs.Resend.{resendOf}
 
 pub data Line : Type 0 where
   -- a receiver is started after s; then these calls: what the last one answers, and the output as it leaves it

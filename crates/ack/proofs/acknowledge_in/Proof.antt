@@ -3,8 +3,8 @@ use mathlib.Core.Path.{_≡_, sym, _∙_}
 use mathlib.Core.Bool.{true}
 use borrow.Author.Tests.{not-true, not-false}
 use denote.Ref.{now}
-use Rattle.receiver.specs.Rules.{rules, slotFits}
-use Rattle.receiver.proofs.Facts.{ruled}
+use Rattle.slots.specs.Rules.{rules, slotFits}
+use Rattle.slots.proofs.Facts.{ruled}
 use Rattle.ack.specs.Acknowledge.{said}
 use Rattle.ack.proofs.Ways.{ack-broken, ack-unfit, ack-plain}
 use borrow.Author.Needs.{needs}

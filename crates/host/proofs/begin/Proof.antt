@@ -1,7 +1,7 @@
 -- `host::begin` meets its contract: it gives what `receiver::start` says, in numbers, and where that is a refusal the state that was given. Assumes nothing.
 use Prim.Native.Nat.{ℕ}
 use mathlib.Core.Path.{_∙_, ap}
-use Rattle.receiver.specs.declared.Answer.the-variants as A
+use Rattle.terms.specs.declared.Answer.the-variants as A
 use Rattle.host.specs.Numbers.{begun}
 use Rattle.host.proofs.Answers.{known-start}
 use borrow.Author.Needs.{needs}

@@ -43,13 +43,13 @@ use denote.Exit.{yes}
 use Rattle.terms.specs.declared.SeqNo.{SeqNo}
 use Rattle.terms.proofs.SeqNo as Q
 use Rattle.terms.proofs.SeqNo.Laws as Q′
-use Rattle.receiver.specs.declared.Receiver.{Receiver}
-use Rattle.receiver.specs.declared.Answer.{Answer}
-use Rattle.receiver.specs.Answers.{said}
+use Rattle.slots.specs.declared.Receiver.{Receiver}
+use Rattle.terms.specs.declared.Answer.{Answer}
+use Rattle.terms.specs.Answers.{said}
 use Rattle.receiver.specs.Accept.{acceptOf}
-use Rattle.receiver.proofs.Receiver as T
-use Rattle.receiver.proofs.Answer as N
-use Rattle.receiver.proofs.Answer.Laws as N′
+use Rattle.slots.proofs.Receiver as T
+use Rattle.terms.proofs.Answer as N
+use Rattle.terms.proofs.Answer.Laws as N′
 use Rattle.inplace.specs.Behind.{acceptedBehind}
 use Rattle.inplace.proofs.State.{seq-is}
 use Rattle.inplace.proofs.accept_lent as core

@@ -40,10 +40,10 @@ use denote.Triple.Clauses.{ensured, lasts}
 use denote.Triple.Table.{entered, cited}
 use denote.Triple.Walked.{says, Stays, stay-dropped, gave-slice, walkOf, goes-dropped, goes-gave-slice, Walks, ends-at, walked, walk-meets}
 use denote.Exit.{yes}
-use Rattle.receiver.specs.declared.Receiver.{Receiver}
+use Rattle.slots.specs.declared.Receiver.{Receiver}
 use Rattle.ack.specs.Acknowledge.{acknowledgeOf}
-use Rattle.receiver.proofs.Receiver as T
-use Rattle.receiver.proofs.Receiver.Laws as T′
+use Rattle.slots.proofs.Receiver as T
+use Rattle.slots.proofs.Receiver.Laws as T′
 use Rattle.inplace.proofs.State.{vals}
 use Rattle.host.specs.declared.Counted.{Counted}
 use Rattle.host.specs.Numbers.{hostedAck, wrote}

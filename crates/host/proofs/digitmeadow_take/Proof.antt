@@ -39,13 +39,13 @@ use denote.Triple.Clauses.{ensured, lasts}
 use denote.Triple.Table.{entered, cited}
 use denote.Triple.Walked.{says, Stays, stay-dropped, gave-ref, gave-slice, walkOf, goes-dropped, goes-gave-ref, goes-gave-slice, Walks, ends-at, walked, walk-meets}
 use denote.Exit.{yes}
-use Rattle.receiver.specs.declared.Receiver.{Receiver}
-use Rattle.receiver.specs.declared.Given.{Given as Answer}
-use Rattle.receiver.specs.Answers.{saidOf}
+use Rattle.slots.specs.declared.Receiver.{Receiver}
+use Rattle.terms.specs.declared.Given.{Given as Answer}
+use Rattle.terms.specs.Answers.{saidOf}
 use Rattle.receiver.specs.Take.{takeOf}
-use Rattle.receiver.proofs.Receiver as T
-use Rattle.receiver.proofs.Given as N
-use Rattle.receiver.proofs.Given.Laws as N′
+use Rattle.slots.proofs.Receiver as T
+use Rattle.terms.proofs.Given as N
+use Rattle.terms.proofs.Given.Laws as N′
 use Rattle.inplace.specs.Behind.{tookBehind}
 use Rattle.inplace.proofs.take_lent as core
 use Rattle.inplace.proofs.take_lent.Symbol as core-def

@@ -1,7 +1,7 @@
 -- `host::of_answer` meets its contract: each case of the answer has its number. Assumes nothing.
 use mathlib.Core.Path.{sym, _∙_, ap}
-use Rattle.receiver.specs.Answers.{said}
-use Rattle.receiver.specs.declared.Answer.{Answer}
+use Rattle.terms.specs.Answers.{said}
+use Rattle.terms.specs.declared.Answer.{Answer}
 use Rattle.host.specs.Numbers.{inNumbers}
 use borrow.Author.Needs.{needs}
 use Rattle.host.proofs.of_answer.Statement.{statement}

@@ -1,7 +1,7 @@
 -- `host::of_given` meets its contract: each case of the answer has its numbers. Assumes nothing.
 use mathlib.Core.Path.{sym, _∙_, ap}
-use Rattle.receiver.specs.Answers.{saidOf}
-use Rattle.receiver.specs.declared.Given.{Given}
+use Rattle.terms.specs.Answers.{saidOf}
+use Rattle.terms.specs.declared.Given.{Given}
 use Rattle.host.specs.Numbers.{inNumbers}
 use borrow.Author.Needs.{needs}
 use Rattle.host.proofs.of_given.Statement.{statement}

@@ -48,15 +48,15 @@ use denote.Exit.{yes}
 use Rattle.terms.specs.declared.SeqNo.{SeqNo}
 use Rattle.terms.proofs.SeqNo as Q
 use Rattle.terms.proofs.SeqNo.Laws as Q′
-use Rattle.receiver.specs.declared.Receiver.{Receiver}
+use Rattle.slots.specs.declared.Receiver.{Receiver}
 use Rattle.receiver.specs.declared.AcceptedIn.{AcceptedIn}
 use Rattle.receiver.specs.Accept.{Accepts, accepts, acceptedIn, acceptOf}
-use Rattle.receiver.proofs.Receiver as T
-use Rattle.receiver.proofs.Receiver.Laws as T′
+use Rattle.slots.proofs.Receiver as T
+use Rattle.slots.proofs.Receiver.Laws as T′
 use Rattle.receiver.proofs.AcceptedIn as P
 use Rattle.receiver.proofs.AcceptedIn.Laws as P′
-use Rattle.receiver.proofs.Answer as N
-use Rattle.receiver.proofs.Answer.Laws as N′
+use Rattle.terms.proofs.Answer as N
+use Rattle.terms.proofs.Answer.Laws as N′
 use Rattle.receiver.proofs.accept_in as core
 use Rattle.receiver.proofs.accept_in.Symbol as core-def
 use Rattle.receiver.proofs.accept_in.Symbol.{name as #receiver·accept-in}

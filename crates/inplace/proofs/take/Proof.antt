@@ -42,15 +42,15 @@ use denote.Triple.Clauses.{ensured, lasts}
 use denote.Triple.Table.{entered, cited}
 use denote.Triple.Walked.{says, Stays, stay-ref, stay-dropped, gave-slice, walkOf, goes-dropped, goes-ref, goes-gave-slice, Walks, ends-at, walked, walk-meets}
 use denote.Exit.{yes}
-use Rattle.receiver.specs.declared.Receiver.{Receiver}
+use Rattle.slots.specs.declared.Receiver.{Receiver}
 use Rattle.receiver.specs.declared.Taken.{Taken}
 use Rattle.receiver.specs.Take.{takeOf, took}
-use Rattle.receiver.proofs.Receiver as T
-use Rattle.receiver.proofs.Receiver.Laws as T′
+use Rattle.slots.proofs.Receiver as T
+use Rattle.slots.proofs.Receiver.Laws as T′
 use Rattle.receiver.proofs.Taken as P
 use Rattle.receiver.proofs.Taken.Laws as P′
-use Rattle.receiver.proofs.Given as N
-use Rattle.receiver.proofs.Given.Laws as N′
+use Rattle.terms.proofs.Given as N
+use Rattle.terms.proofs.Given.Laws as N′
 use Rattle.receiver.proofs.take as core
 use Rattle.receiver.proofs.take.Symbol as core-def
 use Rattle.receiver.proofs.take.Symbol.{name as #receiver·take}

@@ -46,15 +46,15 @@ use denote.Triple.Table.{entered, cited}
 use denote.Triple.Walked.{says, Stays, stay-ref, stay-dropped, gave-slice, walkOf, goes-dropped, goes-ref, goes-gave-slice, Walks, ends-at, walked, walk-meets}
 use denote.Exit.{yes}
 use Rattle.terms.specs.declared.SeqNo.{SeqNo}
-use Rattle.receiver.specs.declared.Receiver.{Receiver}
+use Rattle.slots.specs.declared.Receiver.{Receiver}
 use Rattle.receiver.specs.declared.TakenIn.{TakenIn}
 use Rattle.receiver.specs.Take.{Takes, takes, tookIn, takeOf}
-use Rattle.receiver.proofs.Receiver as T
-use Rattle.receiver.proofs.Receiver.Laws as T′
+use Rattle.slots.proofs.Receiver as T
+use Rattle.slots.proofs.Receiver.Laws as T′
 use Rattle.receiver.proofs.TakenIn as P
 use Rattle.receiver.proofs.TakenIn.Laws as P′
-use Rattle.receiver.proofs.Given as N
-use Rattle.receiver.proofs.Given.Laws as N′
+use Rattle.terms.proofs.Given as N
+use Rattle.terms.proofs.Given.Laws as N′
 use Rattle.receiver.proofs.take_in as core
 use Rattle.receiver.proofs.take_in.Symbol as core-def
 use Rattle.receiver.proofs.take_in.Symbol.{name as #receiver·take-in}

@@ -4,8 +4,7 @@ use mathlib.Core.List.{[]}
 use native.Mathlib.Omega.{arith}
 use lib.ListN.{length}
 use denote.Ref.{now}
-use Rattle.terms.specs.Answers.{values}
-use Rattle.receiver.specs.Answers.{said}
+use Rattle.terms.specs.Answers.{values, said}
 use Rattle.receiver.specs.Accept.{acceptSaid}
 use Rattle.receiver.proofs.Outcomes.{accept-kept, accept-made, Passed, passed, slot-in}
 use borrow.Author.Needs.{needs}

@@ -7,7 +7,7 @@ use lib.Dec.{ltb}
 use denote.Ref.{now}
 use Rattle.terms.specs.Ladder.{_when_else_}
 use Rattle.terms.specs.Answers.{refusal, values}
-use Rattle.receiver.specs.Rules.{rules, sizesFit}
+use Rattle.slots.specs.Rules.{rules, sizesFit}
 use Rattle.receiver.specs.Accept.{acceptSaid}
 use borrow.Author.Needs.{needs}
 use Rattle.receiver.proofs.judge_accept.Statement.{statement}

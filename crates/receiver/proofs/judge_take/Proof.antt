@@ -5,7 +5,7 @@ use mathlib.Core.Path.{_≡_, sym, _∙_}
 use mathlib.Core.Bool.{true}
 use borrow.Author.Tests.{lt-ltb, le-ltb, eq-eqb, ne-eqb, not-true, not-false}
 use denote.Ref.{now}
-use Rattle.receiver.specs.Rules.{rules, sizesFit}
+use Rattle.slots.specs.Rules.{rules, sizesFit}
 use Rattle.receiver.specs.Take.{takeSaid}
 use borrow.Author.Needs.{needs}
 use Rattle.receiver.proofs.judge_take.Statement.{statement}

@@ -4,9 +4,8 @@ use mathlib.Core.List.{[], _∷_}
 use native.Mathlib.Omega.{arith}
 use lib.ListN.{length, length-take, length-drop}
 use denote.Ref.{now}
-use Rattle.terms.specs.Answers.{values}
-use Rattle.receiver.specs.Answers.{saidOf}
-use Rattle.receiver.specs.Slots.{lengthOf, markOf}
+use Rattle.terms.specs.Answers.{values, saidOf}
+use Rattle.slots.specs.Slots.{lengthOf, markOf}
 use Rattle.receiver.specs.Take.{takeSaid}
 use Rattle.receiver.proofs.Outcomes.{take-kept, take-made, Gives, gives, slot-in}
 use borrow.Author.Needs.{needs}

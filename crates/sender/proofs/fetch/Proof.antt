@@ -10,10 +10,12 @@ use Rattle.terms.specs.Answers.{values}
 use denote.Ref.{now}
 use Rattle.places.specs.Table.{_!_, placeOf}
 use Rattle.places.specs.Rules.{rules, sizesFit}
-use Rattle.places.proofs.Facts.{ruled, sized}
-use Rattle.sender.specs.Numbers.{inFlight, sizeOf, markedWith}
+use Rattle.places.proofs.Facts.{ruled, sized, packet-in}
+use Rattle.places.specs.Numbers.{inFlight, sizeOf, markedWith}
 use Rattle.sender.specs.Fetch.{fetchSaid, fetchOf}
-use Rattle.sender.proofs.Outcomes.{rank-missing, tidy, Ranked, ranked-there, packet-in, fetch-made}
+use Rattle.sender.proofs.Ranks.{rank-missing, Ranked, ranked-there}
+use Rattle.places.proofs.Search.{tidy}
+use Rattle.sender.proofs.Outcomes.{fetch-made}
 use borrow.Author.Needs.{needs}
 use Rattle.sender.proofs.fetch.Statement.{statement}
 use Rattle.sender.proofs.fetch.Tie as tie
@@ -118,7 +120,7 @@ put-packet-requires c κs =
     let v = e .before .before .before .before .before .before .before .before .before .before in
     let j = judged (e .before .before .before .before .before .before .before) in
     let stored : a .t1 .marks ! p .place-of .result ≡ 2 = rw (p .place-of .ensures) (found e .marked) in
-    (packet-in (a .t1) (row v) (table v) (width v) (ruled (a .t1) (j .0)) (length (now (a .store))) (p .place-of .result) (j .1) (placed p) (λ z. omega arith), c .before .if4 .left)
+    (packet-in (a .t1) (table v) (ruled (a .t1) (j .0)) (length (now (a .store))) (p .place-of .result) (j .1) (placed p) (λ z. omega arith), c .before .if4 .left)
 
 same-length : tie.Need-same-length
 same-length c = search needs

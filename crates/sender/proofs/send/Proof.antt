@@ -8,10 +8,11 @@ use denote.Ref.{now}
 use Rattle.terms.specs.Answers.{values}
 use Rattle.timer.proofs.Laws.{rto-most}
 use Rattle.places.specs.Table.{_!_, placeOf}
-use Rattle.places.proofs.Facts.{ruled}
-use Rattle.sender.specs.Numbers.{waiting, sizeOf}
+use Rattle.places.proofs.Facts.{ruled, packet-in}
+use Rattle.places.specs.Numbers.{waiting, sizeOf}
 use Rattle.sender.specs.Send.{saidSent, sendSaid, moved}
-use Rattle.sender.proofs.Outcomes.{Ranked, ranked-of, packet-in, Leaves, leaves, send-kept, send-made}
+use Rattle.sender.proofs.Ranks.{Ranked, ranked-of}
+use Rattle.sender.proofs.Outcomes.{Leaves, leaves, send-kept, send-made}
 use borrow.Author.Needs.{needs}
 use Rattle.sender.proofs.send.Statement.{statement}
 use Rattle.sender.proofs.send.Tie as tie
@@ -65,7 +66,7 @@ put-packet-requires c κs =
     let a = e .before .before .before .before .before .args in
     let place = placeOf (a .t1 .numbers) (waiting (a .t1) ! 0) in
     let stored = found e .marked in
-    let inside = packet-in (a .t1) (row e) (table e) (width e) (ruled (a .t1) (ok e .keeps)) (length (now (a .store))) place (ok e .fits) (found e .place) (λ z. omega arith) in
+    let inside = packet-in (a .t1) (table e) (ruled (a .t1) (ok e .keeps)) (length (now (a .store))) place (ok e .fits) (found e .place) (λ z. omega arith) in
     (rw (place-is p, size-is e) inside, rw (size-is e) (ok e .room-is))
 
 rto-requires : tie.Need-rto-requires

@@ -11,7 +11,7 @@ use lib.Seq.{length-take-le}
 use Rattle.terms.specs.Ladder.{_when_else_}
 use Rattle.terms.proofs.Laws.{and-left}
 use Rattle.terms.specs.Answers.{refusal, values}
-use Rattle.receiver.specs.Rules.{rulesOf, slotFits}
+use Rattle.slots.specs.Rules.{rulesOf, slotFits}
 use Rattle.places.specs.Table.{countOf}
 use Rattle.places.specs.Rules.{rules, sizesFit}
 use Rattle.places.proofs.Facts.{Sized, sized}

@@ -3,7 +3,7 @@ use Prim.Native.Nat.{_+_, _≤_}
 use native.Mathlib.Omega.{arith}
 use lib.ListN.{length}
 use denote.Ref.{now}
-use Rattle.sender.specs.Numbers.{offsetOf}
+use Rattle.places.specs.Numbers.{offsetOf}
 use Rattle.submit.proofs.Ways.{never-refused, chunk-long, chunk-short, chunk-laid}
 use borrow.Author.Needs.{needs}
 use Rattle.submit.proofs.put_chunk.Statement.{statement}

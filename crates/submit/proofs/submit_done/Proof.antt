@@ -4,7 +4,7 @@ use mathlib.Core.Path.{_≡_, sym}
 use lib.ListN.{length, take}
 use lib.Seq.{length-take-le}
 use denote.Ref.{now}
-use Rattle.receiver.proofs.Facts.{ruled}
+use Rattle.slots.proofs.Facts.{ruled}
 use Rattle.ack.specs.Fields.{ackNacksOf}
 use Rattle.ack.proofs.Ways.{nacks-front}
 use Rattle.submit.proofs.Ways.{acking-of, stored-of}

@@ -6,11 +6,12 @@ use native.Mathlib.Omega.{arith}
 use borrow.Author.Tests.{le-leb, lt-leb, lt-ltb, le-ltb, not-true, not-false}
 use lib.ListN.{length}
 use Rattle.places.specs.Table.{_!_, countOf, placeOf}
-use Rattle.places.specs.Rules.{rules, sizesFit}
+use Rattle.places.specs.Rules.{rules, sizesFit, clockWrong}
 use Rattle.places.proofs.Facts.{ruled, sized}
-use Rattle.sender.specs.Numbers.{waiting, sizeOf, markedWith, clockWrong}
+use Rattle.places.specs.Numbers.{waiting, sizeOf, markedWith}
 use Rattle.sender.specs.Send.{sendSaid}
-use Rattle.sender.proofs.Outcomes.{rank-missing, tidy, Ranked, ranked-there}
+use Rattle.sender.proofs.Ranks.{rank-missing, Ranked, ranked-there}
+use Rattle.places.proofs.Search.{tidy}
 use borrow.Author.Needs.{needs}
 use Rattle.sender.proofs.going.judge_send.Statement.{statement}
 use Rattle.sender.proofs.going.judge_send.Tie as tie

@@ -1,6 +1,6 @@
 -- `sender::table::ranked` meets its contract: after k turns low heads what is left of the numbers from rank k on. Assumes nothing.
 use Prim.Native.Nat.{_-_}
-use Rattle.sender.proofs.Search.{Walked, walk-start, walk-more, walk-none, walk-end}
+use Rattle.sender.proofs.Ranks.{Walked, walk-start, walk-more, walk-none, walk-end}
 use borrow.Author.Needs.{needs}
 use Rattle.sender.proofs.table.ranked.Statement.{statement}
 use Rattle.sender.proofs.table.ranked.Tie as tie

@@ -45,16 +45,16 @@ use denote.Exit.{yes}
 use Rattle.terms.specs.declared.SeqNo.{SeqNo}
 use Rattle.terms.proofs.SeqNo as Q
 use Rattle.terms.proofs.SeqNo.Laws as Q′
-use Rattle.receiver.specs.declared.Receiver.{Receiver}
+use Rattle.slots.specs.declared.Receiver.{Receiver}
 use Rattle.receiver.specs.declared.Accepted.{Accepted}
-use Rattle.receiver.specs.declared.Answer.{Answer}
+use Rattle.terms.specs.declared.Answer.{Answer}
 use Rattle.receiver.specs.Accept.{acceptOf}
-use Rattle.receiver.proofs.Receiver as T
-use Rattle.receiver.proofs.Receiver.Laws as T′
+use Rattle.slots.proofs.Receiver as T
+use Rattle.slots.proofs.Receiver.Laws as T′
 use Rattle.receiver.proofs.Accepted as P
 use Rattle.receiver.proofs.Accepted.Laws as P′
-use Rattle.receiver.proofs.Answer as N
-use Rattle.receiver.proofs.Answer.Laws as N′
+use Rattle.terms.proofs.Answer as N
+use Rattle.terms.proofs.Answer.Laws as N′
 use Rattle.inplace.specs.Behind.{acceptedBehind}
 use Rattle.inplace.proofs.InMem.{packs, unpacks}
 use Rattle.inplace.proofs.State.{vals}

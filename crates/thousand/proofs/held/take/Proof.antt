@@ -42,16 +42,16 @@ use denote.Triple.Clauses.{ensured, lasts}
 use denote.Triple.Table.{entered, cited}
 use denote.Triple.Walked.{says, Stays, stay-dropped, gave-slice, walkOf, goes-dropped, goes-gave-slice, Walks, ends-at, walked, walk-meets}
 use denote.Exit.{yes}
-use Rattle.receiver.specs.declared.Receiver.{Receiver}
+use Rattle.slots.specs.declared.Receiver.{Receiver}
 use Rattle.receiver.specs.declared.Taken.{Taken}
-use Rattle.receiver.specs.declared.Given.{Given as Answer}
+use Rattle.terms.specs.declared.Given.{Given as Answer}
 use Rattle.receiver.specs.Take.{takeOf}
-use Rattle.receiver.proofs.Receiver as T
-use Rattle.receiver.proofs.Receiver.Laws as T′
+use Rattle.slots.proofs.Receiver as T
+use Rattle.slots.proofs.Receiver.Laws as T′
 use Rattle.receiver.proofs.Taken as P
 use Rattle.receiver.proofs.Taken.Laws as P′
-use Rattle.receiver.proofs.Given as N
-use Rattle.receiver.proofs.Given.Laws as N′
+use Rattle.terms.proofs.Given as N
+use Rattle.terms.proofs.Given.Laws as N′
 use Rattle.inplace.specs.Behind.{tookBehind}
 use Rattle.inplace.proofs.InMem.{packs, unpacks}
 use Rattle.inplace.proofs.State.{vals}

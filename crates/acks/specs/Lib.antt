@@ -1,0 +1,3 @@
+-- The definitions that the promise cites: what acks does.
+pub mod Acks
+pub mod Steps
