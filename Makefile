@@ -9,7 +9,6 @@ SOAK_COUNT ?= 5000000
 # The story of the lamps: the same packets, given to our receiver and to the Rust's.
 demo:
 	@tools/build lamps
-	@oracle/build.sh
 	@echo '== Our receiver, proved =='
 	@tools/run lamps
 	@echo '== The Rust as given, the same packets =='
@@ -25,7 +24,6 @@ links:
 
 # Our program beside the Rust as given, and beside the model of document 01, on the same calls.
 compare:
-	@oracle/build.sh
 	@tools/build drive
 	@oracle/compare.sh read $(SEED) 100000
 	@oracle/compare.sh write $(SEED) 120000
@@ -43,7 +41,6 @@ compare:
 
 # Longer: rounds of whole runs and of hostile calls with seeds of their own, until SOAK_COUNT calls were compared.
 soak:
-	@oracle/build.sh
 	@tools/build drive
 	@oracle/soak.sh $(SEED) $(SOAK_COUNT)
 

@@ -1,8 +1,7 @@
 // The sending half's state: 192 places for packets beside a store that the host lends, the searches in its table, and start.
 // Ports what `Stream` keeps for sending. Its two `BTreeMap`s, of pending and of unacked packets, become one table.
 ghost use mathlib.Core.Path.{_≡_};
-ghost use mathlib.Core.Bool.{true};
-ghost use Prim.Native.Nat.{_<_, min};
+ghost use Prim.Native.Nat.{min};
 ghost use lib.Dec.{eqb};
 ghost use lib.ListN.{length};
 ghost use Rattle.terms.specs.Lists.{all};
