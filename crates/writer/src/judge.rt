@@ -5,9 +5,10 @@ use packet::flags;
 use terms::Refusal;
 ghost use mathlib.Core.Path.{_≡_};
 ghost use mathlib.Core.Bool.{_&&_, _||_, not};
-ghost use Prim.Native.Nat.{_≤_};
+ghost use Prim.Native.Nat.{_+_, _≤_};
 ghost use lib.Dec.{ltb, eqb};
 ghost use lib.ListN.{length};
+ghost use Rattle.terms.specs.Ladder.{_when_else_};
 ghost use Rattle.packet.specs.Flags.{bit};
 ghost use Rattle.packet.specs.Destination.{isDestination};
 ghost use Rattle.writer.specs.Writing.{said, unfit, partsUnfit, sizesOf, judgeOf};
@@ -57,6 +58,16 @@ fn other_length(signed: bool, from: bool, signature: usize) -> bool
     signature != 64
 }
 
+// How many option bytes stand before the signature.
+pub(super) fn before_signature(flags: u16, destination: usize) -> usize
+    requires { ⌜ destination ≤ 65535 ⌝ }
+    ensures { λ r. ⌜ (r ≡ (2 when bit 6 flags else 0) + destination + (2 when bit 7 flags else 0)) × (r ≤ destination + 4) ⌝ }
+{
+    let delay = flags::size_if(flags::has(flags, flags::DELAY), 2);
+    let max_size = flags::size_if(flags::has(flags, flags::MAX_SIZE), 2);
+    delay + destination + max_size
+}
+
 // The last two refusals, which go by lengths. No sum is taken of lengths that could leave the width.
 fn sizes(
     flags: u16,
@@ -78,9 +89,7 @@ fn sizes(
     if payload > 65535 {
         return Writing::Refused(Refusal::PacketLong);
     }
-    let delay = flags::size_if(flags::has(flags, flags::DELAY), 2);
-    let max_size = flags::size_if(flags::has(flags, flags::MAX_SIZE), 2);
-    let signature_at = 22 + 4 * nacks + (delay + destination + max_size);
+    let signature_at = 22 + 4 * nacks + before_signature(flags, destination);
     let length = signature_at + signature + payload;
     if length > 65535 {
         return Writing::Refused(Refusal::PacketLong);
