@@ -7,9 +7,11 @@ ghost use mathlib.Core.Bool.{true};
 ghost use mathlib.Core.List.{_++_};
 ghost use Prim.Native.Nat.{_+_, _*_, _≤_};
 ghost use lib.ListN.{length};
+ghost use Rattle.terms.specs.Ladder.{_when_else_};
 ghost use Rattle.terms.specs.Lists.{_atFrontOf_, joined};
 ghost use Rattle.wire.specs.BigEndian.{bytesOf, bytesOfEach};
-ghost use Rattle.writer.specs.Writing.{idParts, headParts, optionParts, packetBytes, ifThere, Fitting};
+ghost use Rattle.packet.specs.Flags.{bit};
+ghost use Rattle.writer.specs.Writing.{idParts, headParts, packetBytes, ifThere, Fitting};
 
 // The two ids, the sequence number and ack-through.
 fn ids(rest: &mut [u8], f: Fields)
@@ -59,29 +61,24 @@ fn head(rest: &mut [u8], f: Fields, nacks: &[u32], options: u16)
     requires { ⌜ (length (now nacks) ≤ 255) × (22 + 4 * length (now nacks) ≤ length (now rest)) ⌝ }
     ensures { λ _. ⌜ now (rest .exit) ≡ joined (headParts f (now (nacks .entry)) options) atFrontOf now (rest .entry) ⌝ }
 {
-    let resend_delay = f.resend_delay;
-    let flags = f.flags;
     let flags_at = 17 + 4 * nacks.len();
     ids(rest, f);
     counted(&mut rest[16..], nacks);
-    flagged(&mut rest[flags_at..], resend_delay, flags, options);
+    flagged(&mut rest[flags_at..], f.resend_delay, f.flags, options);
 }
 
 // The options.
-fn options(rest: &mut [u8], f: Fields, destination: &[u8], signature: &[u8])
-    requires { ⌜ length (joined (optionParts f (now destination) (now signature))) ≤ length (now rest) ⌝ }
-    ensures { λ _. ⌜ now (rest .exit) ≡ joined (optionParts f (now (destination .entry)) (now (signature .entry))) atFrontOf now (rest .entry) ⌝ }
+fn options(rest: &mut [u8], flags: u16, delay: u16, size: u16, destination: &[u8], signature: &[u8])
+    requires { ⌜ (2 when bit 6 flags else 0) + length (now destination) + (2 when bit 7 flags else 0) + length (now signature) ≤ length (now rest) ⌝ }
+    ensures { λ _. ⌜ now (rest .exit) ≡ (ifThere (bit 6 flags) delay ++ now (destination .entry) ++ ifThere (bit 7 flags) size ++ now (signature .entry)) atFrontOf now (rest .entry) ⌝ }
 {
-    let flags = f.flags;
-    let delay = f.delay;
-    let max_size = f.max_size;
     let delayed = flags::has(flags, flags::DELAY);
     let sized = flags::has(flags, flags::MAX_SIZE);
     put16_if(rest, delayed, delay);
     let destination_at = flags::size_if(delayed, 2);
     wire::put_bytes(&mut rest[destination_at..], destination);
     let max_at = destination_at + destination.len();
-    put16_if(&mut rest[max_at..], sized, max_size);
+    put16_if(&mut rest[max_at..], sized, size);
     let signature_at = max_at + flags::size_if(sized, 2);
     wire::put_bytes(&mut rest[signature_at..], signature);
 }
@@ -101,7 +98,14 @@ pub(super) fn packet(
     let size = judge::before_signature(f.flags, destination.len()) + signature.len();
     head(output, f, nacks, size as u16);
     let options_at = 22 + 4 * nacks.len();
-    options(&mut output[options_at..], f, destination, signature);
+    options(
+        &mut output[options_at..],
+        f.flags,
+        f.delay,
+        f.max_size,
+        destination,
+        signature,
+    );
     let payload_at = options_at + size;
     wire::put_bytes(&mut output[payload_at..], payload);
 }

@@ -3,7 +3,7 @@ use Prim.Native.Nat.{ℕ, _+_, _-_, _*_}
 use mathlib.Core.Path.{_≡_, _∙_, ap}
 use mathlib.Core.List.{List, _++_, append-assoc}
 use native.Mathlib.Omega.{arith}
-use lib.ListN.{length}
+use lib.ListN.{length, take, drop}
 use denote.Ref.{now}
 use borrow.Rule.Slice.PartMut.{putMid}
 use Rattle.terms.specs.Ladder.{_when_else_}
@@ -11,7 +11,7 @@ use Rattle.terms.specs.Lists.{_atFrontOf_, joined}
 use Rattle.wire.proofs.Parts.{Front, front-first, front-more, front-at, front-inside, front-room}
 use Rattle.packet.specs.Flags.{bit}
 use Rattle.writer.specs.Writing.{headParts, optionParts, packetBytes}
-use Rattle.writer.proofs.Joins.{length-head, length-options}
+use Rattle.writer.proofs.Joins.{length-head, options-joined, length-options}
 use borrow.Author.Needs.{needs}
 use Rattle.writer.proofs.put.packet.Statement.{statement}
 use Rattle.writer.proofs.put.packet.Tie as tie
@@ -50,8 +50,11 @@ two : (c : tie.After-options) → let h = c .before .before .before .before in l
 two c =
     let h = c .before .before .before .before in
     let s = start (sizes h) in
+    let o = h .head .last .0 in
+    let n = 22 + 4 * length (now (s .args .nacks)) in
     front-at _ (omega (arith, size (sizes h)))
-    (front-more (one h) (joined (optionParts (s .args .f) (now (s .args .destination)) (now (s .args .signature)))) (omega (arith, options-long s, s .pre)) (c .options .ensures))
+    (front-more (one h) (joined (optionParts (s .args .f) (now (s .args .destination)) (now (s .args .signature)))) (omega (arith, options-long s, s .pre))
+    (c .options .ensures ∙ ap (λ (w : List ℕ). w atFrontOf take (length o - n) (drop n o)) (options-joined (s .args .f) (now (s .args .destination)) (now (s .args .signature)))))
 
 before-signature-requires : tie.Need-before-signature-requires
 before-signature-requires c κs = search needs
