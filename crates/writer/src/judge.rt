@@ -4,8 +4,8 @@ use super::Writing;
 use packet::flags;
 use terms::Refusal;
 ghost use mathlib.Core.Path.{_≡_};
-ghost use mathlib.Core.Bool.{_&&_, _||_, not};
-ghost use Prim.Native.Nat.{_+_, _≤_};
+ghost use mathlib.Core.Bool.{true, false, _&&_, _||_, not};
+ghost use Prim.Native.Nat.{_+_, _≤_, _<_};
 ghost use lib.Dec.{ltb, eqb};
 ghost use lib.ListN.{length};
 ghost use Rattle.terms.specs.Ladder.{_when_else_};
@@ -68,7 +68,20 @@ pub(super) fn before_signature(flags: u16, destination: usize) -> usize
     delay + destination + max_size
 }
 
-// The last two refusals, which go by lengths. No sum is taken of lengths that could leave the width.
+// A part that is longer than any packet, so that no sum is taken of lengths that could leave the width.
+fn part_long(destination: usize, signature: usize, payload: usize) -> bool
+    ensures { λ r. ⌜ (r ≡ true → 65535 < destination + signature + payload) × (r ≡ false → (destination ≤ 65535) × (signature ≤ 65535) × (payload ≤ 65535)) ⌝ }
+{
+    if destination > 65535 {
+        return true;
+    }
+    if signature > 65535 {
+        return true;
+    }
+    payload > 65535
+}
+
+// The last two refusals, which go by lengths.
 fn sizes(
     flags: u16,
     nacks: usize,
@@ -80,13 +93,7 @@ fn sizes(
     requires { ⌜ nacks ≤ 255 ⌝ }
     ensures { λ r. ⌜ said r ≡ sizesOf flags nacks destination signature payload room ⌝ }
 {
-    if destination > 65535 {
-        return Writing::Refused(Refusal::PacketLong);
-    }
-    if signature > 65535 {
-        return Writing::Refused(Refusal::PacketLong);
-    }
-    if payload > 65535 {
+    if part_long(destination, signature, payload) {
         return Writing::Refused(Refusal::PacketLong);
     }
     let signature_at = 22 + 4 * nacks + before_signature(flags, destination);
