@@ -11,19 +11,14 @@ ghost use Rattle.terms.specs.Ladder.{_when_else_};
 ghost use Rattle.terms.specs.Lists.{_atFrontOf_, joined};
 ghost use Rattle.wire.specs.BigEndian.{bytesOf, bytesOfEach};
 ghost use Rattle.packet.specs.Flags.{bit};
-ghost use Rattle.writer.specs.Writing.{idParts, headParts, packetBytes, ifThere, Fitting};
+ghost use Rattle.writer.specs.Writing.{headParts, packetBytes, ifThere, Fitting};
 
 // The two ids, the sequence number and ack-through.
-fn ids(rest: &mut [u8], f: Fields)
+fn ids(rest: &mut [u8], send: u32, recv: u32, seq: u32, ack: u32)
     requires { ⌜ 16 ≤ length (now rest) ⌝ }
-    ensures { λ _. ⌜ now (rest .exit) ≡ joined (idParts f) atFrontOf now (rest .entry) ⌝ }
+    ensures { λ _. ⌜ now (rest .exit) ≡ (bytesOf 4 send ++ bytesOf 4 recv ++ bytesOf 4 seq ++ bytesOf 4 ack) atFrontOf now (rest .entry) ⌝ }
 {
-    let numbers = [
-        f.send_stream_id.0,
-        f.recv_stream_id.0,
-        f.seq_nro.0,
-        f.ack_through.0,
-    ];
+    let numbers = [send, recv, seq, ack];
     wire::put_numbers(rest, &numbers);
 }
 
@@ -62,7 +57,13 @@ fn head(rest: &mut [u8], f: Fields, nacks: &[u32], options: u16)
     ensures { λ _. ⌜ now (rest .exit) ≡ joined (headParts f (now (nacks .entry)) options) atFrontOf now (rest .entry) ⌝ }
 {
     let flags_at = 17 + 4 * nacks.len();
-    ids(rest, f);
+    ids(
+        rest,
+        f.send_stream_id.0,
+        f.recv_stream_id.0,
+        f.seq_nro.0,
+        f.ack_through.0,
+    );
     counted(&mut rest[16..], nacks);
     flagged(&mut rest[flags_at..], f.resend_delay, f.flags, options);
 }
