@@ -14,7 +14,7 @@ use Rattle.writer.specs.Writing.{idParts, headParts, optionParts, packet
 use Rattle.writer.specs.declared.Fields.{Fields}
 
 pub head-joined : (f : Fields) (nacks : List ℕ) (options : ℕ)
-    → joined (idParts f) ++ bytesOf 1 (length nacks) ++ bytesOfEach 4 nacks ++ bytesOf 1 (f .«resend_delay») ++ bytesOf 2 (f .flags) ++ bytesOf 2 options
+    → joined (idParts f) ++ (bytesOf 1 (length nacks) ++ bytesOfEach 4 nacks) ++ (bytesOf 1 (f .«resend_delay») ++ bytesOf 2 (f .flags) ++ bytesOf 2 options)
     ≡ joined (headParts f nacks options)
 head-joined f nacks options = simp append-assoc
 

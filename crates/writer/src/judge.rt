@@ -4,10 +4,11 @@ use super::Writing;
 use packet::flags;
 use terms::Refusal;
 ghost use mathlib.Core.Path.{_≡_};
-ghost use mathlib.Core.Bool.{_&&_, _||_, not};
-ghost use Prim.Native.Nat.{_≤_};
-ghost use lib.Dec.{ltb, eqb};
+ghost use mathlib.Core.Bool.{true, false, _&&_, not};
+ghost use Prim.Native.Nat.{_+_, _≤_, _<_};
+ghost use lib.Dec.{eqb};
 ghost use lib.ListN.{length};
+ghost use Rattle.terms.specs.Ladder.{_when_else_};
 ghost use Rattle.packet.specs.Flags.{bit};
 ghost use Rattle.packet.specs.Destination.{isDestination};
 ghost use Rattle.writer.specs.Writing.{said, unfit, partsUnfit, sizesOf, judgeOf};
@@ -57,7 +58,30 @@ fn other_length(signed: bool, from: bool, signature: usize) -> bool
     signature != 64
 }
 
-// The last two refusals, which go by lengths. No sum is taken of lengths that could leave the width.
+// How many option bytes stand before the signature.
+pub(super) fn before_signature(flags: u16, destination: usize) -> usize
+    requires { ⌜ destination ≤ 65535 ⌝ }
+    ensures { λ r. ⌜ (r ≡ (2 when bit 6 flags else 0) + destination + (2 when bit 7 flags else 0)) × (r ≤ destination + 4) ⌝ }
+{
+    let delay = flags::size_if(flags::has(flags, flags::DELAY), 2);
+    let max_size = flags::size_if(flags::has(flags, flags::MAX_SIZE), 2);
+    delay + destination + max_size
+}
+
+// A part that is longer than any packet, so that no sum is taken of lengths that could leave the width.
+fn part_long(destination: usize, signature: usize, payload: usize) -> bool
+    ensures { λ r. ⌜ (r ≡ true → 65535 < destination + signature + payload) × (r ≡ false → (destination ≤ 65535) × (signature ≤ 65535) × (payload ≤ 65535)) ⌝ }
+{
+    if destination > 65535 {
+        return true;
+    }
+    if signature > 65535 {
+        return true;
+    }
+    payload > 65535
+}
+
+// The last two refusals, which go by lengths.
 fn sizes(
     flags: u16,
     nacks: usize,
@@ -69,18 +93,10 @@ fn sizes(
     requires { ⌜ nacks ≤ 255 ⌝ }
     ensures { λ r. ⌜ said r ≡ sizesOf flags nacks destination signature payload room ⌝ }
 {
-    if destination > 65535 {
+    if part_long(destination, signature, payload) {
         return Writing::Refused(Refusal::PacketLong);
     }
-    if signature > 65535 {
-        return Writing::Refused(Refusal::PacketLong);
-    }
-    if payload > 65535 {
-        return Writing::Refused(Refusal::PacketLong);
-    }
-    let delay = flags::size_if(flags::has(flags, flags::DELAY), 2);
-    let max_size = flags::size_if(flags::has(flags, flags::MAX_SIZE), 2);
-    let signature_at = 22 + 4 * nacks + (delay + destination + max_size);
+    let signature_at = 22 + 4 * nacks + before_signature(flags, destination);
     let length = signature_at + signature + payload;
     if length > 65535 {
         return Writing::Refused(Refusal::PacketLong);

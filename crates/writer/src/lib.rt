@@ -44,18 +44,16 @@ pub fn write(
     ensures { λ r. ⌜ said r ≡ writeOf fields (now (nacks .entry)) (now (destination .entry)) (now (signature .entry)) (now (payload .entry)) (length (now (output .entry))) ⌝ }
     ensures { λ _. ⌜ now (output .exit) ≡ outputAfter fields (now (nacks .entry)) (now (destination .entry)) (now (signature .entry)) (now (payload .entry)) (now (output .entry)) ⌝ }
 {
-    match judge::judge(
+    let answer = judge::judge(
         fields,
         nacks.len(),
         destination,
         signature.len(),
         payload.len(),
         output.len(),
-    ) {
-        Writing::Refused(r) => Writing::Refused(r),
-        Writing::Written(length, signature_at) => {
-            put::packet(fields, nacks, destination, signature, payload, output);
-            Writing::Written(length, signature_at)
-        }
+    );
+    if let Writing::Written(_, _) = answer {
+        put::packet(fields, nacks, destination, signature, payload, output);
     }
+    answer
 }

@@ -1,7 +1,7 @@
 -- `writer::put::options` meets its contract: each option goes behind the last, and an absent one is no byte. Assumes nothing.
-use Prim.Native.Nat.{ℕ, _+_, _-_, _≤_}
+use Prim.Native.Nat.{ℕ, _+_, _-_}
 use mathlib.Core.Path.{_≡_, sym, _∙_, ap}
-use mathlib.Core.List.{List, _++_}
+use mathlib.Core.List.{_++_}
 use mathlib.Core.Bool.{Bool}
 use native.Mathlib.Omega.{arith}
 use lib.ListN.{length, take, drop}
@@ -12,15 +12,10 @@ use Rattle.terms.specs.Lists.{_atFrontOf_}
 use Rattle.wire.proofs.Parts.{Front, front-first, front-more, front-at, front-inside, front-room}
 use Rattle.packet.specs.Flags.{bit}
 use Rattle.writer.specs.Writing.{ifThere}
-use Rattle.writer.proofs.Joins.{options-joined, length-if, length-options}
+use Rattle.writer.proofs.Joins.{length-if}
 use borrow.Author.Needs.{needs}
 use Rattle.writer.proofs.put.options.Statement.{statement}
 use Rattle.writer.proofs.put.options.Tie as tie
-
--- what the options take fits
-room : (s : tie.Start) → let f = s .args .f in
-    (2 when bit 6 (f .flags) else 0) + length (now (s .args .destination)) + (2 when bit 7 (f .flags) else 0) + length (now (s .args .signature)) ≤ length (now (s .args .rest))
-room s = omega (arith, s .pre, length-options (s .args .f) (now (s .args .destination)) (now (s .args .signature)))
 
 abbrev sizeOf : Bool → ℕ
 sizeOf b = 2 when b else 0
@@ -31,46 +26,46 @@ start c = c .before .before .before .before .before .before .before .before .bef
 abbrev sized : tie.After-size-if2 → tie.After-size-if
 sized c = c .before .before .before .before .before .before .before .before .before
 
-size : (c : tie.After-size-if) → c .size-if .result ≡ (2 when bit 6 (start c .args .f .flags) else 0)
+size : (c : tie.After-size-if) → c .size-if .result ≡ (2 when bit 6 (start c .args .flags) else 0)
 size c = c .size-if .ensures .0 ∙ ap (λ (b : Bool). sizeOf b) (c .before .before .before .before .before .before .has .ensures)
 
-size2 : (c : tie.After-size-if2) → c .size-if2 .result ≡ (2 when bit 7 (start (sized c) .args .f .flags) else 0)
+size2 : (c : tie.After-size-if2) → c .size-if2 .result ≡ (2 when bit 7 (start (sized c) .args .flags) else 0)
 size2 c = c .size-if2 .ensures .0 ∙ ap (λ (b : Bool). sizeOf b) (sized c .before .before .before .before .before .has2 .ensures)
 
 -- the delay is at the front
 one : (c : tie.After-size-if) → let s = start c in
-    Front (ifThere (bit 6 (s .args .f .flags)) (s .args .f .delay)) (now (s .args .rest)) (c .before .before .before .put16-if .last .0) (c .size-if .result)
+    Front (ifThere (bit 6 (s .args .flags)) (s .args .delay)) (now (s .args .rest)) (c .before .before .before .put16-if .last .0) (c .size-if .result)
 one c =
     let s = start c in
-    front-first _ _ _ _ (c .before .before .before .put16-if .ensures ∙ ap (λ (b : Bool). ifThere b (s .args .f .delay) atFrontOf now (s .args .rest)) (c .before .before .before .before .before .before .has .ensures))
-    (length-if (bit 6 (s .args .f .flags)) (s .args .f .delay) ∙ sym (size c)) (omega (arith, size c, room s))
+    front-first _ _ _ _ (c .before .before .before .put16-if .ensures ∙ ap (λ (b : Bool). ifThere b (s .args .delay) atFrontOf now (s .args .rest)) (c .before .before .before .before .before .before .has .ensures))
+    (length-if (bit 6 (s .args .flags)) (s .args .delay) ∙ sym (size c)) (omega (arith, size c, s .pre))
 
 -- then the destination
 two : (c : tie.After-put-bytes) → let e = c .before .before in let s = start e in let o = e .before .before .before .put16-if .last .0 in
-    Front (ifThere (bit 6 (s .args .f .flags)) (s .args .f .delay) ++ now (s .args .destination)) (now (s .args .rest))
+    Front (ifThere (bit 6 (s .args .flags)) (s .args .delay) ++ now (s .args .destination)) (now (s .args .rest))
     (putMid (e .size-if .result) (length o - e .size-if .result) o (c .put-bytes .last .0)) (e .size-if .result + length (now (s .args .destination)))
 two c =
     let e = c .before .before in
-    front-more (one e) (now (start e .args .destination)) (omega (arith, size e, room (start e))) (c .put-bytes .ensures)
+    front-more (one e) (now (start e .args .destination)) (omega (arith, size e, start e .pre)) (c .put-bytes .ensures)
 
 -- then the maximum size
 three : (c : tie.After-size-if2) → let d = c .before .before .before .before .before .before .before in let e = sized c in let s = start e in
     let o = e .before .before .before .put16-if .last .0 in let q = putMid (e .size-if .result) (length o - e .size-if .result) o (d .put-bytes .last .0) in
     let n = e .size-if .result + length (now (s .args .destination)) in
-    Front (ifThere (bit 6 (s .args .f .flags)) (s .args .f .delay) ++ now (s .args .destination) ++ ifThere (bit 7 (s .args .f .flags)) (s .args .f .«max_size»)) (now (s .args .rest))
+    Front (ifThere (bit 6 (s .args .flags)) (s .args .delay) ++ now (s .args .destination) ++ ifThere (bit 7 (s .args .flags)) (s .args .size)) (now (s .args .rest))
     (putMid n (length q - n) q (c .before .before .before .put16-if2 .last .0)) (n + c .size-if2 .result)
 three c =
     let d = c .before .before .before .before .before .before .before in
     let e = sized c in
     let s = start e in
-    let l = length-if (bit 7 (s .args .f .flags)) (s .args .f .«max_size») in
+    let l = length-if (bit 7 (s .args .flags)) (s .args .size) in
     let o = e .before .before .before .put16-if .last .0 in
     let q = putMid (e .size-if .result) (length o - e .size-if .result) o (d .put-bytes .last .0) in
     let n = e .size-if .result + length (now (s .args .destination)) in
     front-at _ (omega (arith, l, size2 c))
-    (front-more (two d) (ifThere (bit 7 (s .args .f .flags)) (s .args .f .«max_size»)) (omega (arith, l, size e, room s))
+    (front-more (two d) (ifThere (bit 7 (s .args .flags)) (s .args .size)) (omega (arith, l, size e, s .pre))
     (c .before .before .before .put16-if2 .ensures
-    ∙ ap (λ (b : Bool). ifThere b (s .args .f .«max_size») atFrontOf (take (length q - n) (drop n q))) (e .before .before .before .before .before .has2 .ensures)))
+    ∙ ap (λ (b : Bool). ifThere b (s .args .size) atFrontOf (take (length q - n) (drop n q))) (e .before .before .before .before .before .has2 .ensures)))
 
 has-requires : tie.Need-has-requires
 has-requires c κs = search needs
@@ -82,8 +77,8 @@ put16-if-requires : tie.Need-put16-if-requires
 put16-if-requires c κs =
     λ t.
     let s = c .before .before .before .before .before .before in
-    let z : _≡_ {A = ℕ} (2 when bit 6 (s .args .f .flags) else 0) 2 = rw (sym (c .before .before .has .ensures) ∙ t) in
-    omega (arith, room s)
+    let z : _≡_ {A = ℕ} (2 when bit 6 (s .args .flags) else 0) 2 = rw (sym (c .before .before .has .ensures) ∙ t) in
+    omega (arith, s .pre)
 
 size-if-requires : tie.Need-size-if-requires
 size-if-requires c κs = search needs
@@ -98,7 +93,7 @@ part-put-bytes-end : tie.Need-part-put-bytes-end
 part-put-bytes-end c = search needs
 
 put-bytes-requires : tie.Need-put-bytes-requires
-put-bytes-requires c κs = front-room (one (c .before)) _ (omega (arith, size (c .before), room (start (c .before))))
+put-bytes-requires c κs = front-room (one (c .before)) _ (omega (arith, size (c .before), start (c .before) .pre))
 
 add-max-at : tie.Need-add-max-at
 add-max-at c = search needs
@@ -118,8 +113,8 @@ put16-if-requires-2 c κs =
     let p = c .before .before .before in
     let e = p .before .before in
     let s = start e in
-    let z : _≡_ {A = ℕ} (2 when bit 7 (s .args .f .flags) else 0) 2 = rw (sym (e .before .before .before .before .before .has2 .ensures) ∙ t) in
-    front-room (two p) 2 (omega (arith, size e, room s))
+    let z : _≡_ {A = ℕ} (2 when bit 7 (s .args .flags) else 0) 2 = rw (sym (e .before .before .before .before .before .has2 .ensures) ∙ t) in
+    front-room (two p) 2 (omega (arith, size e, s .pre))
 
 size-if-requires-2 : tie.Need-size-if-requires-2
 size-if-requires-2 c κs = search needs
@@ -139,7 +134,7 @@ part-put-bytes-end-2 c = search needs
 put-bytes-requires-2 : tie.Need-put-bytes-requires-2
 put-bytes-requires-2 c κs =
     let e = c .before in
-    front-room (three e) _ (omega (arith, size2 e, size (sized e), room (start (sized e))))
+    front-room (three e) _ (omega (arith, size2 e, size (sized e), start (sized e) .pre))
 
 same-length : tie.Need-same-length
 same-length c = search needs
@@ -149,8 +144,7 @@ returns c =
     let p = c .before .before in
     let e = p .before .before in
     let s = start (sized e) in
-    front-more (three e) (now (s .args .signature)) (omega (arith, size2 e, size (sized e), room s)) (p .put-bytes2 .ensures) .begins
-    ∙ ap (λ (w : List ℕ). w atFrontOf now (s .args .rest)) (options-joined (s .args .f) (now (s .args .destination)) (now (s .args .signature)))
+    front-more (three e) (now (s .args .signature)) (omega (arith, size2 e, size (sized e), s .pre)) (p .put-bytes2 .ensures) .begins
 
 pub options-spec : {M : Type 1} → statement M
 options-spec =

@@ -1,10 +1,9 @@
 -- `writer::put::packet` meets its contract: the head, the options behind it, and the payload behind them. Assumes nothing.
 use Prim.Native.Nat.{ℕ, _+_, _-_, _*_}
 use mathlib.Core.Path.{_≡_, _∙_, ap}
-use mathlib.Core.Bool.{Bool}
 use mathlib.Core.List.{List, _++_, append-assoc}
 use native.Mathlib.Omega.{arith}
-use lib.ListN.{length}
+use lib.ListN.{length, take, drop}
 use denote.Ref.{now}
 use borrow.Rule.Slice.PartMut.{putMid}
 use Rattle.terms.specs.Ladder.{_when_else_}
@@ -12,19 +11,16 @@ use Rattle.terms.specs.Lists.{_atFrontOf_, joined}
 use Rattle.wire.proofs.Parts.{Front, front-first, front-more, front-at, front-inside, front-room}
 use Rattle.packet.specs.Flags.{bit}
 use Rattle.writer.specs.Writing.{headParts, optionParts, packetBytes}
-use Rattle.writer.proofs.Joins.{length-head, length-options}
+use Rattle.writer.proofs.Joins.{length-head, options-joined, length-options}
 use borrow.Author.Needs.{needs}
 use Rattle.writer.proofs.put.packet.Statement.{statement}
 use Rattle.writer.proofs.put.packet.Tie as tie
 
-abbrev sizes : tie.After-head → tie.After-size-if2
+abbrev start : tie.After-before-signature → tie.Start
+start c = c .before .before .before .before .before .before
+
+abbrev sizes : tie.After-head → tie.After-before-signature
 sizes c = c .before .before
-
-abbrev start : tie.After-size-if2 → tie.Start
-start c = c .before .before .before .before .before .before .before .before .before
-
-abbrev sizeOf : Bool → ℕ
-sizeOf b = 2 when b else 0
 
 -- how long the options are
 options-long : (s : tie.Start) → let f = s .args .f in
@@ -33,17 +29,13 @@ options-long : (s : tie.Start) → let f = s .args .f in
 options-long s = length-options (s .args .f) (now (s .args .destination)) (now (s .args .signature))
 
 -- the code's sum is that length
-size : (c : tie.After-size-if2) → let s = start c in
-    c .before .before .size-if .result + length (now (s .args .destination)) + c .size-if2 .result + length (now (s .args .signature))
-    ≡ length (joined (optionParts (s .args .f) (now (s .args .destination)) (now (s .args .signature))))
-size c =
-    let a = c .before .before .size-if .ensures .0 ∙ ap (λ (b : Bool). sizeOf b) (c .before .before .before .has .ensures) in
-    let b = c .size-if2 .ensures .0 ∙ ap (λ (b : Bool). sizeOf b) (c .before .has2 .ensures) in
-    omega (arith, a, b, options-long (start c))
+size : (c : tie.After-before-signature) → let s = start c in
+    c .before-signature .result + length (now (s .args .signature)) ≡ length (joined (optionParts (s .args .f) (now (s .args .destination)) (now (s .args .signature))))
+size c = omega (arith, c .before-signature .ensures .0, options-long (start c))
 
 -- the head is at the front
 one : (c : tie.After-head) → let e = sizes c in let s = start e in
-    Front (joined (headParts (s .args .f) (now (s .args .nacks)) (e .before .before .size-if .result + length (now (s .args .destination)) + e .size-if2 .result + length (now (s .args .signature)))))
+    Front (joined (headParts (s .args .f) (now (s .args .nacks)) (e .before-signature .result + length (now (s .args .signature)))))
     (now (s .args .output)) (c .head .last .0) (22 + 4 * length (now (s .args .nacks)))
 one c =
     let s = start (sizes c) in
@@ -51,36 +43,24 @@ one c =
 
 -- then the options
 two : (c : tie.After-options) → let h = c .before .before .before .before in let e = sizes h in let s = start e in let o = h .head .last .0 in
-    let z = e .before .before .size-if .result + length (now (s .args .destination)) + e .size-if2 .result + length (now (s .args .signature)) in
+    let z = e .before-signature .result + length (now (s .args .signature)) in
     let n = 22 + 4 * length (now (s .args .nacks)) in
     Front (joined (headParts (s .args .f) (now (s .args .nacks)) z) ++ joined (optionParts (s .args .f) (now (s .args .destination)) (now (s .args .signature))))
     (now (s .args .output)) (putMid n (length o - n) o (c .options .last .0)) (n + z)
 two c =
     let h = c .before .before .before .before in
     let s = start (sizes h) in
+    let o = h .head .last .0 in
+    let n = 22 + 4 * length (now (s .args .nacks)) in
     front-at _ (omega (arith, size (sizes h)))
-    (front-more (one h) (joined (optionParts (s .args .f) (now (s .args .destination)) (now (s .args .signature)))) (omega (arith, options-long s, s .pre)) (c .options .ensures))
+    (front-more (one h) (joined (optionParts (s .args .f) (now (s .args .destination)) (now (s .args .signature)))) (omega (arith, options-long s, s .pre))
+    (c .options .ensures ∙ ap (λ (w : List ℕ). w atFrontOf take (length o - n) (drop n o)) (options-joined (s .args .f) (now (s .args .destination)) (now (s .args .signature)))))
 
-has-requires : tie.Need-has-requires
-has-requires c κs = search needs
-
-size-if-requires : tie.Need-size-if-requires
-size-if-requires c κs = search needs
-
-has-requires-2 : tie.Need-has-requires-2
-has-requires-2 c κs = search needs
-
-size-if-requires-2 : tie.Need-size-if-requires-2
-size-if-requires-2 c κs = search needs
+before-signature-requires : tie.Need-before-signature-requires
+before-signature-requires c κs = search needs
 
 add-size : tie.Need-add-size
 add-size c = search needs
-
-add-size-2 : tie.Need-add-size-2
-add-size-2 c = search needs
-
-add-size-3 : tie.Need-add-size-3
-add-size-3 c = search needs
 
 cast-head : tie.Need-cast-head
 cast-head c = search needs
@@ -140,19 +120,14 @@ returns c =
     let options = joined (optionParts (s .args .f) (now (s .args .destination)) (now (s .args .signature))) in
     front-more (two o) (now (s .args .payload)) (omega (arith, size e, options-long s, s .pre)) (p .put-bytes .ensures) .begins
     ∙ ap (λ (w : List ℕ). w atFrontOf now (s .args .output))
-    (append-assoc (joined (headParts (s .args .f) (now (s .args .nacks)) (e .before .before .size-if .result + length (now (s .args .destination)) + e .size-if2 .result + length (now (s .args .signature))))) options (now (s .args .payload)) ∙ ap (λ (k : ℕ). joined (headParts (s .args .f) (now (s .args .nacks)) k) ++ (options ++ now (s .args .payload))) (size e))
+    (append-assoc (joined (headParts (s .args .f) (now (s .args .nacks)) (e .before-signature .result + length (now (s .args .signature))))) options (now (s .args .payload)) ∙ ap (λ (k : ℕ). joined (headParts (s .args .f) (now (s .args .nacks)) k) ++ (options ++ now (s .args .payload))) (size e))
 
 pub packet-spec : {M : Type 1} → statement M
 packet-spec =
     tie.close
     (tie.spec
-    has-requires
-    size-if-requires
-    has-requires-2
-    size-if-requires-2
+    before-signature-requires
     add-size
-    add-size-2
-    add-size-3
     cast-head
     head-requires
     mul-options-at
