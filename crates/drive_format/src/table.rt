@@ -3,12 +3,6 @@
 //
 // Kinds: a number of 1, 2, 4 or 8 bytes; `b` bytes; `n` NACKs; `o` an output; `s` and `z` the receiver's and the sender's store; `m` marks; `p` places.
 // Told: `R` the receiver's state; `P` the sender's; `+` the checksum of what was lent.
-use script::registers;
-use script::registers::ASKED;
-use script::registers::Bank;
-use script::registers::TOLD;
-use script::registers::WORD;
-
 pub const SIZE: usize = 1000;
 
 // The i-th byte of the table, and 0 behind its end.
@@ -62,7 +56,7 @@ fn row(letter: u8) -> usize {
 }
 
 // The place behind the next space.
-fn after(from: usize) -> usize {
+pub fn after(from: usize) -> usize {
     let mut i = from;
     while i < SIZE {
         if at(i) == b' ' {
@@ -73,13 +67,7 @@ fn after(from: usize) -> usize {
     i
 }
 
-// Notes where the parts of the letter's row begin, and answers whether it has one.
-pub fn find(bank: &mut Bank, letter: u8) -> bool {
-    let word = after(row(letter));
-    let asked = after(word);
-    let told = after(asked);
-    registers::put(bank, WORD, word as u64);
-    registers::put(bank, ASKED, asked as u64);
-    registers::put(bank, TOLD, told as u64);
-    word < SIZE
+// Where the word of the letter's row begins, and a place behind the table where it has none.
+pub fn word(letter: u8) -> usize {
+    after(row(letter))
 }

@@ -2,9 +2,7 @@
 use super::table;
 use super::table::SIZE;
 use script::input;
-use script::input::Window;
 use script::registers;
-use script::registers::ASKED;
 use script::registers::Bank;
 use script::registers::Bytes;
 use script::registers::FIELDS;
@@ -26,109 +24,84 @@ fn width(digit: u8) -> u8 {
 }
 
 // A number into a place of the bank.
-fn number(window: &mut Window, bank: &mut Bank, at: usize, width: u8) {
-    let x = input::number(window, bank, width);
+fn number(bank: &mut Bank, at: usize, width: u8) {
+    let x = input::number(bank, width);
     registers::put(bank, at, x);
 }
 
 // A length and that many bytes, behind those that the call asked before.
-fn bytes(window: &mut Window, bank: &mut Bank, given: &mut Bytes, at: usize) {
-    let n = input::length(window, bank);
-    if n > 70000 {
-        input::spoil(bank);
-        return;
-    }
-    let from = registers::length(bank, GIVEN) % 1000000;
-    input::take(window, bank, given, from, from + n);
+fn bytes(bank: &mut Bank, given: &mut Bytes, at: usize) {
+    let n = input::limited(bank, 4, 70000);
+    let from = registers::length(bank, GIVEN) % 140001;
+    input::take(bank, given, from, from + n);
     registers::put(bank, GIVEN, (from + n) as u64);
     registers::put(bank, at, n as u64);
 }
 
 // A length, a byte and bytes: a buffer of that length with the bytes at its front and the byte in every place behind them.
-fn buffer(window: &mut Window, bank: &mut Bank, into: &mut [u8], at: usize) {
-    let n = input::length(window, bank);
-    let byte = input::byte(window, bank);
-    let front = input::length(window, bank);
-    if n > into.len() {
-        input::spoil(bank);
-        return;
-    }
-    if front > n {
-        input::spoil(bank);
-        return;
-    }
-    input::take(window, bank, into, 0, front);
-    registers::fill(into, front, n, byte);
+fn buffer(bank: &mut Bank, into: &mut [u8], at: usize) {
+    let n = input::limited(bank, 4, into.len());
+    let byte = input::number(bank, 1);
+    let front = input::limited(bank, 4, n);
+    input::take(bank, into, 0, front);
+    registers::fill(into, front, n, (byte % 256) as u8);
     registers::put(bank, at, n as u64);
 }
 
 // A slot and its mark.
-fn mark(window: &mut Window, bank: &mut Bank) {
-    let i = input::number(window, bank, 2);
-    if i > 511 {
-        input::spoil(bank);
-        return;
-    }
-    number(window, bank, MARKS + i as usize, 2);
+fn mark(bank: &mut Bank) {
+    let i = input::limited(bank, 2, 511);
+    number(bank, MARKS + i, 2);
 }
 
 // A place and what it holds.
-fn place(window: &mut Window, bank: &mut Bank) {
-    let i = input::number(window, bank, 1);
-    if i > 191 {
-        input::spoil(bank);
-        return;
-    }
-    let at = PLACES + 4 * (i as usize);
-    number(window, bank, at, 4);
-    number(window, bank, at + 1, 4);
-    number(window, bank, at + 2, 8);
-    number(window, bank, at + 3, 4);
+fn place(bank: &mut Bank) {
+    let i = input::limited(bank, 1, 191);
+    let at = PLACES + 4 * i;
+    number(bank, at, 4);
+    number(bank, at + 1, 4);
+    number(bank, at + 2, 8);
+    number(bank, at + 3, 4);
 }
 
 // The k-th item of a list.
-fn item(window: &mut Window, bank: &mut Bank, kind: u8, k: usize) {
+fn item(bank: &mut Bank, kind: u8, k: usize) {
     match kind {
-        b'n' => number(window, bank, NACKS + k % 300, 4),
-        b'm' => mark(window, bank),
-        _ => place(window, bank),
+        b'n' => number(bank, NACKS + k % 300, 4),
+        b'm' => mark(bank),
+        _ => place(bank),
     }
 }
 
 // A count, which has a limit, and that many items.
-fn list(window: &mut Window, bank: &mut Bank, at: usize, kind: u8, most: usize) {
-    let n = input::number(window, bank, 2) as usize;
-    if n > most {
-        input::spoil(bank);
-        return;
-    }
+fn list(bank: &mut Bank, at: usize, kind: u8, most: usize) {
+    let n = input::limited(bank, 2, most);
     registers::put(bank, at, n as u64);
     let mut k = 0;
     while k < n {
-        item(window, bank, kind, k);
+        item(bank, kind, k);
         k += 1;
     }
 }
 
 // A field of numbers alone.
-fn plain(window: &mut Window, bank: &mut Bank, at: usize, kind: u8) {
+fn plain(bank: &mut Bank, at: usize, kind: u8) {
     match kind {
-        b'n' => list(window, bank, at, kind, 300),
+        b'n' => list(bank, at, kind, 300),
         b'm' => {
             registers::clear(bank, MARKS, 512);
-            list(window, bank, at, kind, 512)
+            list(bank, at, kind, 512)
         }
         b'p' => {
             registers::clear(bank, PLACES, 768);
-            list(window, bank, at, kind, 192)
+            list(bank, at, kind, 192)
         }
-        _ => number(window, bank, at, width(kind)),
+        _ => number(bank, at, width(kind)),
     }
 }
 
 // A field of the call, by its kind; its number, or its length, goes to a place of the bank.
 fn field(
-    window: &mut Window,
     bank: &mut Bank,
     given: &mut Bytes,
     out: &mut Output,
@@ -138,17 +111,26 @@ fn field(
     kind: u8,
 ) {
     match kind {
-        b'b' => bytes(window, bank, given, at),
-        b'o' => buffer(window, bank, out, at),
-        b's' => buffer(window, bank, received, RECEIVER_STORE),
-        b'z' => buffer(window, bank, sent, SENDER_STORE),
-        _ => plain(window, bank, at, kind),
+        b'b' => bytes(bank, given, at),
+        b'o' => buffer(bank, out, at),
+        b's' => buffer(bank, received, RECEIVER_STORE),
+        b'z' => buffer(bank, sent, SENDER_STORE),
+        _ => plain(bank, at, kind),
     }
 }
 
-// Takes all that a letter asks, the i-th field to the place i of the bank. A letter without a row spoils the script.
+// Where the kinds of the letter's fields begin. A letter without a row spoils the script, and asks fields of no byte.
+fn begin(bank: &mut Bank, letter: u8) -> usize {
+    let asked = table::after(table::word(letter));
+    if asked >= SIZE {
+        input::spoil(bank);
+    }
+    registers::put(bank, GIVEN, 0);
+    asked
+}
+
+// Takes all that a letter asks, the i-th field to the place i of the bank.
 pub fn call(
-    window: &mut Window,
     bank: &mut Bank,
     given: &mut Bytes,
     out: &mut Output,
@@ -156,19 +138,14 @@ pub fn call(
     sent: &mut Store,
     letter: u8,
 ) {
-    if !table::find(bank, letter) {
-        input::spoil(bank);
-        return;
-    }
-    registers::put(bank, GIVEN, 0);
-    let asked = registers::length(bank, ASKED);
+    let asked = begin(bank, letter);
     let mut i = 0;
     while i < FIELDS {
-        let kind = table::at(asked % SIZE + i);
+        let kind = table::at(asked % 65536 + i);
         if kind == b' ' {
             return;
         }
-        field(window, bank, given, out, received, sent, i, kind);
+        field(bank, given, out, received, sent, i, kind);
         i += 1;
     }
 }

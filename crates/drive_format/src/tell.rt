@@ -1,4 +1,5 @@
 // Tells what a call answered, in one line, as its row of the table says: its word, its numbers, the state after it, and the checksum of what was lent.
+// What puts a part of the line at a place answers the place behind it.
 use super::table;
 use super::table::SIZE;
 use script::output;
@@ -12,14 +13,12 @@ use script::registers::PLACES;
 use script::registers::RECEIVER;
 use script::registers::SENDER;
 use script::registers::SUM;
-use script::registers::TOLD;
-use script::registers::WORD;
 
 // Whether the numbers from a place on are all 0, width of them.
-fn blank(bank: &Bank, at: usize, width: usize) -> bool {
+fn blank(bank: &Bank, from: usize, width: usize) -> bool {
     let mut i = 0;
     while i < width {
-        if registers::value(bank, at % 65536 + i % 65536) != 0 {
+        if registers::value(bank, from % 65536 + i % 65536) != 0 {
             return false;
         }
         i += 1;
@@ -28,10 +27,10 @@ fn blank(bank: &Bank, at: usize, width: usize) -> bool {
 }
 
 // How many of the rows from a place on are not blank, a row being width numbers.
-fn filled(bank: &Bank, at: usize, rows: usize, width: usize) -> u64 {
+fn filled(bank: &Bank, from: usize, rows: usize, width: usize) -> u64 {
     let mut n: u64 = 0;
     let mut i: u64 = rows as u64;
-    let mut place = at;
+    let mut place = from;
     while i > 0 {
         if !blank(bank, place, width) {
             n = n % 65536 + 1;
@@ -43,73 +42,88 @@ fn filled(bank: &Bank, at: usize, rows: usize, width: usize) -> u64 {
 }
 
 // A row's index and its numbers, where it is not blank.
-fn row(page: &mut Page, bank: &mut Bank, at: usize, i: usize, width: usize) {
-    if blank(bank, at, width) {
-        return;
+fn row(page: &mut Page, at: usize, bank: &Bank, from: usize, i: usize, width: usize) -> usize {
+    if blank(bank, from, width) {
+        return at;
     }
-    output::number(page, bank, i as u64);
-    output::numbers(page, bank, at, width);
+    let end = output::number(page, at, i as u64);
+    output::numbers(page, end, bank, from, width)
 }
 
 // How many rows are not blank, and these.
-fn rows(page: &mut Page, bank: &mut Bank, at: usize, rows: usize, width: usize) {
-    let n = filled(bank, at, rows, width);
-    output::number(page, bank, n);
-    let mut place = at;
+fn rows(page: &mut Page, at: usize, bank: &Bank, from: usize, rows: usize, width: usize) -> usize {
+    let mut end = output::number(page, at, filled(bank, from, rows, width));
+    let mut place = from;
     let mut i = 0;
     while i < rows {
-        row(page, bank, place, i, width);
+        end = row(page, end, bank, place, i, width);
         place = place % 65536 + width % 65536;
         i += 1;
     }
+    end
+}
+
+fn receiver(page: &mut Page, at: usize, bank: &Bank) -> usize {
+    let end = output::numbers(page, at, bank, RECEIVER, 3);
+    rows(page, end, bank, MARKS, 512, 1)
+}
+
+fn sender(page: &mut Page, at: usize, bank: &Bank) -> usize {
+    let end = output::numbers(page, at, bank, SENDER, 10);
+    rows(page, end, bank, PLACES, 192, 4)
 }
 
 // What stands behind the numbers of an answer, by its mark in the table.
-fn part(page: &mut Page, bank: &mut Bank, told: u8) {
+fn part(page: &mut Page, at: usize, bank: &Bank, told: u8) -> usize {
     match told {
-        b'R' => {
-            output::numbers(page, bank, RECEIVER, 3);
-            rows(page, bank, MARKS, 512, 1)
-        }
-        b'P' => {
-            output::numbers(page, bank, SENDER, 10);
-            rows(page, bank, PLACES, 192, 4)
-        }
-        _ => output::numbers(page, bank, SUM, 1),
+        b'R' => receiver(page, at, bank),
+        b'P' => sender(page, at, bank),
+        _ => output::numbers(page, at, bank, SUM, 1),
     }
 }
 
-fn parts(page: &mut Page, bank: &mut Bank) {
-    let at = registers::length(bank, TOLD) % SIZE;
+// The parts that the table has from a place on.
+fn parts(page: &mut Page, at: usize, bank: &Bank, told: usize) -> usize {
+    let mut end = at;
     let mut i = 0;
     while i < SIZE {
-        let told = table::at(at + i);
-        if told == b'\n' {
-            return;
+        let mark = table::at(told % 65536 + i);
+        if mark == b'\n' {
+            return output::byte(page, end, mark);
         }
-        part(page, bank, told);
+        end = part(page, end, bank, mark);
         i += 1;
     }
+    end
 }
 
-fn word(page: &mut Page, bank: &mut Bank) {
-    let at = registers::length(bank, WORD) % SIZE;
+// The word that the table has from a place on, at the page's front.
+fn word(page: &mut Page, word: usize) -> usize {
+    let mut end = 0;
     let mut i = 0;
     while i < SIZE {
-        let letter = table::at(at + i);
+        let letter = table::at(word % 65536 + i);
         if letter == b' ' {
-            return;
+            return end;
         }
-        output::byte(page, bank, letter);
+        end = output::byte(page, end, letter);
         i += 1;
     }
+    end
 }
 
-// The line of the call whose row was found.
-pub fn call(page: &mut Page, bank: &mut Bank) {
-    word(page, bank);
+fn line(page: &mut Page, bank: &Bank, letter: u8) -> usize {
+    let begin = table::word(letter);
+    let told = table::after(table::after(begin));
+    let end = word(page, begin);
     let n = registers::length(bank, COUNT);
-    output::numbers(page, bank, ANSWERS, n);
-    parts(page, bank);
-    output::byte(page, bank, b'\n');
+    let next = output::numbers(page, end, bank, ANSWERS, n);
+    parts(page, next, bank, told)
+}
+
+// The line of a call.
+pub fn call(bank: &Bank, letter: u8) {
+    let mut page = [0u8; output::SIZE];
+    let n = line(&mut page, bank, letter);
+    output::write(&page, n);
 }

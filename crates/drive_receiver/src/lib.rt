@@ -2,6 +2,7 @@
 // The state and what a call asks stand in the registers, and its answer goes there.
 use ack::Acknowledged;
 use lines::part;
+use receiver::Accepted;
 use script::registers;
 use script::registers::Bank;
 use script::registers::Bytes;
@@ -63,10 +64,18 @@ fn keep(bank: &mut Bank, r: Receiver) {
     keep_marks(bank, &marks);
 }
 
-fn answer(bank: &mut Bank, answer: Answer) {
+// The answers of the calls, here and on a sender.
+pub fn answer(bank: &mut Bank, answer: Answer) {
     match answer {
         Answer::Done => registers::answer(bank, 0),
         Answer::Refused(r) => registers::answer(bank, r.number() as u64),
+    }
+}
+
+pub fn given(bank: &mut Bank, answer: Given) {
+    match answer {
+        Given::Bytes(n) => registers::answer2(bank, 0, n as u64),
+        Given::Refused(r) => registers::answer2(bank, r.number() as u64, 0),
     }
 }
 
@@ -86,27 +95,25 @@ fn set(bank: &mut Bank) {
     bank[COUNT] = 0;
 }
 
-fn set_store(bank: &mut Bank, store: &[u8]) {
+// A store, of a receiver or a sender, is in its place already.
+pub fn set_store(bank: &mut Bank, store: &[u8]) {
     registers::answer(bank, store.len() as u64);
     bank[SUM] = sum::checksum(store);
 }
 
-fn accept(bank: &mut Bank, payload: &[u8], store: &mut [u8]) {
+fn accepted(bank: &Bank, payload: &[u8], store: &mut [u8]) -> Accepted {
     let number = SeqNo(registers::word32(bank, 0));
     let r = state(bank);
-    let done = receiver::accept(r, number, payload, store);
+    receiver::accept(r, number, payload, store)
+}
+
+fn accept(bank: &mut Bank, payload: &[u8], store: &mut [u8]) {
+    let done = accepted(bank, payload, store);
     let after = done.state;
     let said = done.answer;
     keep(bank, after);
     answer(bank, said);
     bank[SUM] = sum::checksum(store);
-}
-
-fn given(bank: &mut Bank, answer: Given) {
-    match answer {
-        Given::Bytes(n) => registers::answer2(bank, 0, n as u64),
-        Given::Refused(r) => registers::answer2(bank, r.number() as u64, 0),
-    }
 }
 
 fn take(bank: &mut Bank, store: &[u8], out: &mut [u8]) {
@@ -119,11 +126,15 @@ fn take(bank: &mut Bank, store: &[u8], out: &mut [u8]) {
     bank[SUM] = sum::checksum(out);
 }
 
-fn acknowledge(bank: &mut Bank, out: &mut [u8]) {
+fn acknowledged(bank: &Bank, out: &mut [u8]) -> Acknowledged {
     let send = StreamId(registers::word32(bank, 0));
     let recv = StreamId(registers::word32(bank, 1));
     let r = state(bank);
-    match ack::acknowledge(r, send, recv, out) {
+    ack::acknowledge(r, send, recv, out)
+}
+
+fn acknowledge(bank: &mut Bank, out: &mut [u8]) {
+    match acknowledged(bank, out) {
         Acknowledged::Written(n) => registers::answer2(bank, 0, n as u64),
         Acknowledged::Refused(r) => registers::answer2(bank, r.number() as u64, 0),
     }
@@ -131,12 +142,13 @@ fn acknowledge(bank: &mut Bank, out: &mut [u8]) {
 }
 
 // The calls with the front of a register as the store or the output.
-fn accept_to(bank: &mut Bank, payload: &[u8], store: &mut [u8]) {
+fn accept_to(bank: &mut Bank, bytes: &[u8], store: &mut [u8]) {
     let n = registers::length(bank, RECEIVER_STORE);
     if n > store.len() {
         return;
     }
-    accept(bank, payload, &mut store[..n]);
+    let size = registers::length(bank, 1);
+    accept(bank, part::front(bytes, size), &mut store[..n]);
 }
 
 fn take_to(bank: &mut Bank, store: &[u8], out: &mut [u8]) {
@@ -144,7 +156,8 @@ fn take_to(bank: &mut Bank, store: &[u8], out: &mut [u8]) {
     if room > out.len() {
         return;
     }
-    take(bank, store, &mut out[..room]);
+    let held = registers::length(bank, RECEIVER_STORE);
+    take(bank, part::front(store, held), &mut out[..room]);
 }
 
 fn acknowledge_to(bank: &mut Bank, out: &mut [u8]) {
@@ -155,15 +168,21 @@ fn acknowledge_to(bank: &mut Bank, out: &mut [u8]) {
     acknowledge(bank, &mut out[..room]);
 }
 
-pub fn call(bank: &mut Bank, given: &Bytes, out: &mut Output, store: &mut Store, letter: u8) {
-    let n = registers::length(bank, 1);
+// The calls that set the state or the store.
+fn call_to_set(bank: &mut Bank, store: &[u8], letter: u8) {
     let held = registers::length(bank, RECEIVER_STORE);
     match letter {
         b'S' => start(bank, part::front(store, held)),
         b'R' => set(bank),
-        b'B' => set_store(bank, part::front(store, held)),
-        b'a' => accept_to(bank, part::front(given, n), store),
-        b't' => take_to(bank, part::front(store, held), out),
-        _ => acknowledge_to(bank, out),
+        _ => set_store(bank, part::front(store, held)),
+    }
+}
+
+pub fn call(bank: &mut Bank, bytes: &Bytes, out: &mut Output, store: &mut Store, letter: u8) {
+    match letter {
+        b'a' => accept_to(bank, bytes, store),
+        b't' => take_to(bank, store, out),
+        b'k' => acknowledge_to(bank, out),
+        _ => call_to_set(bank, store, letter),
     }
 }

@@ -15,17 +15,9 @@ use script::registers::SUM;
 use script::registers::Store;
 use script::sum;
 use sender::Departure;
-use terms::Answer;
-use terms::Given;
+use submit::Submitted;
 use terms::SeqNo;
 use terms::StreamId;
-
-fn answer(bank: &mut Bank, answer: Answer) {
-    match answer {
-        Answer::Done => registers::answer(bank, 0),
-        Answer::Refused(r) => registers::answer(bank, r.number() as u64),
-    }
-}
 
 fn start(bank: &mut Bank, store: &[u8]) {
     let first = SeqNo(registers::word32(bank, 0));
@@ -35,7 +27,7 @@ fn start(bank: &mut Bank, store: &[u8]) {
     let after = done.state;
     let said = done.answer;
     state::keep(bank, after);
-    answer(bank, said);
+    drive_receiver::answer(bank, said);
 }
 
 // The state that the call gives stands in its first ten fields, and its places are there already. The unused numbers of an unsampled timing and
@@ -45,11 +37,6 @@ fn set(bank: &mut Bank) {
     let s = state::given(bank);
     state::keep(bank, s);
     bank[COUNT] = 0;
-}
-
-fn set_store(bank: &mut Bank, store: &[u8]) {
-    registers::answer(bank, store.len() as u64);
-    bank[SUM] = sum::checksum(store);
 }
 
 fn valid(bank: &mut Bank) {
@@ -69,12 +56,16 @@ fn tally(bank: &mut Bank, answer: Tally) {
 }
 
 // Submits with the receiver of the registers.
-fn submit(bank: &mut Bank, bytes: &[u8], store: &mut [u8]) {
+fn submitted(bank: &Bank, bytes: &[u8], store: &mut [u8]) -> Submitted {
     let send = StreamId(registers::word32(bank, 0));
     let recv = StreamId(registers::word32(bank, 1));
     let s = state::given(bank);
     let r = drive_receiver::state(bank);
-    let done = submit::submit(s, r, send, recv, bytes, store);
+    submit::submit(s, r, send, recv, bytes, store)
+}
+
+fn submit(bank: &mut Bank, bytes: &[u8], store: &mut [u8]) {
+    let done = submitted(bank, bytes, store);
     let after = done.state;
     let said = done.answer;
     state::keep(bank, after);
@@ -129,50 +120,63 @@ fn resend(bank: &mut Bank) {
 fn fetch(bank: &mut Bank, store: &[u8], out: &mut [u8]) {
     let rank = registers::word32(bank, 0);
     let s = state::given(bank);
-    match sender::fetch(s, rank, store, out) {
-        Given::Bytes(n) => registers::answer2(bank, 0, n as u64),
-        Given::Refused(r) => registers::answer2(bank, r.number() as u64, 0),
-    }
+    let said = sender::fetch(s, rank, store, out);
+    drive_receiver::given(bank, said);
     bank[SUM] = sum::checksum(out);
 }
 
-// The calls with the front of a register as the store or the output.
+// Submits with the front of the register as the store.
 fn submit_to(bank: &mut Bank, bytes: &[u8], store: &mut [u8]) {
     let n = registers::length(bank, SENDER_STORE);
     if n > store.len() {
         return;
     }
-    submit(bank, bytes, &mut store[..n]);
+    let size = registers::length(bank, 2);
+    submit(bank, part::front(bytes, size), &mut store[..n]);
 }
 
-fn send_to(bank: &mut Bank, store: &[u8], out: &mut [u8]) {
+// The calls that write an output.
+fn write(bank: &mut Bank, store: &[u8], out: &mut [u8], letter: u8) {
+    match letter {
+        b's' => send(bank, store, out),
+        _ => fetch(bank, store, out),
+    }
+}
+
+// The same with the fronts of the registers as the store and the output.
+fn write_to(bank: &mut Bank, store: &[u8], out: &mut [u8], letter: u8) {
     let room = registers::length(bank, 1);
     if room > out.len() {
         return;
     }
-    send(bank, store, &mut out[..room]);
+    let held = registers::length(bank, SENDER_STORE);
+    write(bank, part::front(store, held), &mut out[..room], letter);
 }
 
-fn fetch_to(bank: &mut Bank, store: &[u8], out: &mut [u8]) {
-    let room = registers::length(bank, 1);
-    if room > out.len() {
-        return;
-    }
-    fetch(bank, store, &mut out[..room]);
-}
-
-pub fn call(bank: &mut Bank, given: &Bytes, out: &mut Output, store: &mut Store, letter: u8) {
-    let n = registers::length(bank, 2);
+// The calls that take a store, which is in its place already.
+fn begin(bank: &mut Bank, store: &[u8], letter: u8) {
     let held = registers::length(bank, SENDER_STORE);
     match letter {
         b'Z' => start(bank, part::front(store, held)),
+        _ => drive_receiver::set_store(bank, part::front(store, held)),
+    }
+}
+
+// The calls on the state alone.
+fn change(bank: &mut Bank, letter: u8) {
+    match letter {
         b'P' => set(bank),
-        b'D' => set_store(bank, part::front(store, held)),
         b'v' => valid(bank),
-        b'u' => submit_to(bank, part::front(given, n), store),
-        b's' => send_to(bank, part::front(store, held), out),
         b'c' => acks(bank),
-        b'e' => resend(bank),
-        _ => fetch_to(bank, part::front(store, held), out),
+        _ => resend(bank),
+    }
+}
+
+pub fn call(bank: &mut Bank, bytes: &Bytes, out: &mut Output, store: &mut Store, letter: u8) {
+    match letter {
+        b'u' => submit_to(bank, bytes, store),
+        b's' | b'h' => write_to(bank, store, out, letter),
+        b'Z' | b'D' => begin(bank, store, letter),
+        _ => change(bank, letter),
     }
 }

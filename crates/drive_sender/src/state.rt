@@ -136,14 +136,18 @@ fn keep_places(bank: &mut Bank, s: Sender) {
     keep_column(bank, MARK, &marks);
 }
 
-pub fn keep(bank: &mut Bank, s: Sender) {
+fn keep_numbers(bank: &mut Bank, s: Sender) {
     registers::put(bank, SENDER, s.chunk as u64);
     registers::put(bank, SENDER + 1, s.count as u64);
     registers::put(bank, SENDER + 2, s.next.0 as u64);
     registers::put(bank, SENDER + 3, s.window as u64);
     registers::put(bank, SENDER + 9, s.clock);
+}
+
+pub fn keep(bank: &mut Bank, s: Sender) {
     let timing = s.timing;
     let timer = s.timer;
+    keep_numbers(bank, s);
     keep_timing(bank, timing);
     keep_timer(bank, timer);
     keep_places(bank, s);

@@ -41,17 +41,20 @@ fn fields(p: Packet) -> Fields {
     }
 }
 
-fn written_same(bytes: &[u8], p: Packet, nacks: &[u32; 256], n: usize) -> bool {
-    let mut out = [0u8; 65536];
-    let answer = writer::write(
+fn written(bytes: &[u8], p: Packet, nacks: &[u32; 256], n: usize, out: &mut [u8]) -> Writing {
+    writer::write(
         fields(p),
         part::front32(nacks, n),
         packet::destination(bytes),
         packet::signature(bytes),
         packet::payload(bytes),
-        &mut out,
-    );
-    match answer {
+        out,
+    )
+}
+
+fn written_same(bytes: &[u8], p: Packet, nacks: &[u32; 256], n: usize) -> bool {
+    let mut out = [0u8; 65536];
+    match written(bytes, p, nacks, n, &mut out) {
         Writing::Written(length, _) => same_front(&out, length, bytes),
         Writing::Refused(_) => false,
     }

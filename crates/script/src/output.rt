@@ -1,61 +1,53 @@
-// The answers: bytes collect in a page, which is written to standard output when it is full and at the end.
+// A line of an answer: it is put together in a page and then written to standard output. What puts something at a place answers the place behind it.
 use super::registers;
 use super::registers::Bank;
-use super::registers::USED;
 use libc::STDOUT_FILENO;
 use lines::part;
 
-const SIZE: usize = 65536;
+// The longest line, of a sender with all its places, has less than 12,000 bytes.
+pub const SIZE: usize = 16384;
 
 pub type Page = [u8; SIZE];
 
-// Writes the page out and empties it.
-pub fn flush(page: &mut Page, bank: &mut Bank) {
-    let used = registers::length(bank, USED);
-    io::write_all(STDOUT_FILENO, part::front(page, used));
-    bank[USED] = 0;
-}
-
-// Makes room for a byte.
-fn room(page: &mut Page, bank: &mut Bank) {
-    if bank[USED] < 65536 {
-        return;
+pub fn byte(page: &mut Page, at: usize, b: u8) -> usize {
+    if at < SIZE {
+        page[at] = b;
+        return at + 1;
     }
-    flush(page, bank);
-}
-
-pub fn byte(page: &mut Page, bank: &mut Bank, b: u8) {
-    room(page, bank);
-    let at = bank[USED];
-    if at < 65536 {
-        page[at as usize] = b;
-        bank[USED] = at + 1;
-    }
+    at
 }
 
 // The bytes of a word as they stand.
-pub fn word(page: &mut Page, bank: &mut Bank, text: &[u8]) {
+fn word(page: &mut Page, at: usize, text: &[u8]) -> usize {
+    let mut end = at;
     let mut i = 0;
     while i < text.len() {
-        byte(page, bank, text[i]);
+        end = byte(page, end, text[i]);
         i += 1;
     }
+    end
 }
 
 // A space, and the number in decimal.
-pub fn number(page: &mut Page, bank: &mut Bank, x: u64) {
+pub fn number(page: &mut Page, at: usize, x: u64) -> usize {
     let mut digits = [0u8; 20];
     let n = io::decimal(x, &mut digits);
-    byte(page, bank, b' ');
-    word(page, bank, &digits[..n]);
+    let end = byte(page, at, b' ');
+    word(page, end, &digits[..n])
 }
 
 // The numbers that stand in the bank from a place on, n of them.
-pub fn numbers(page: &mut Page, bank: &mut Bank, at: usize, n: usize) {
+pub fn numbers(page: &mut Page, at: usize, bank: &Bank, from: usize, n: usize) -> usize {
+    let mut end = at;
     let mut i = 0;
     while i < n {
-        let x = registers::value(bank, at % 65536 + i % 65536);
-        number(page, bank, x);
+        end = number(page, end, registers::value(bank, from % 65536 + i % 65536));
         i += 1;
     }
+    end
+}
+
+// Writes the front of the page out.
+pub fn write(page: &Page, n: usize) {
+    io::write_all(STDOUT_FILENO, part::front(page, n));
 }

@@ -15,33 +15,20 @@ pub type Output = [u8; 70000];
 
 pub type Store = [u8; 930000];
 
-// From 0 on stands what the call asks, field by field in the script's order: a number, or the length of bytes. Then the script's marks: where its next byte
-// stands in the window, where the bytes that were read end, 1 where it is spoiled; how much of the page is used; how many bytes the call asked so far.
+// From 0 on stands what the call asks, field by field in the script's order: a number, or the length of bytes. Then 1 where the script is spoiled, and how many bytes
+// the call asked so far.
 pub const FIELDS: usize = 16;
 
-pub const AT: usize = 16;
+pub const SPOILED: usize = 16;
 
-pub const END: usize = 17;
-
-pub const SPOILED: usize = 18;
-
-pub const USED: usize = 19;
-
-pub const GIVEN: usize = 20;
+pub const GIVEN: usize = 17;
 
 // What the call answers: how many numbers, the checksum of a lent buffer, and the numbers.
-pub const COUNT: usize = 21;
+pub const COUNT: usize = 18;
 
-pub const SUM: usize = 22;
+pub const SUM: usize = 19;
 
 pub const ANSWERS: usize = 32;
-
-// Where the word, the kinds and what is told begin in the letter's row of the table.
-pub const WORD: usize = 24;
-
-pub const ASKED: usize = 25;
-
-pub const TOLD: usize = 26;
 
 // The receiver: slot size, next, highest; its store's length; its 512 marks.
 pub const RECEIVER: usize = 64;

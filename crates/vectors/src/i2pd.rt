@@ -127,17 +127,23 @@ fn place(x: u64) -> usize {
     x as usize
 }
 
-fn numbers(at: u64, v: &Values, p: Packet) -> u64
-    ensures { λ r. ⌜ r ≤ 7 ⌝ }
+fn ids(at: u64, v: &Values, p: Packet) -> u64
+    ensures { λ r. ⌜ r ≤ 4 ⌝ }
 {
     let send = differs(at, b"send", v[SEND], id(p.send_stream_id.0));
     let recv = differs(at, b"recv", v[RECV], id(p.recv_stream_id.0));
     let seq = differs(at, b"seq", v[SEQ], id(p.seq_nro.0));
     let ack = differs(at, b"ack", v[ACK], id(p.ack_through.0));
+    send + recv + seq + ack
+}
+
+fn numbers(at: u64, v: &Values, p: Packet) -> u64
+    ensures { λ r. ⌜ r ≤ 3 ⌝ }
+{
     let flags = differs(at, b"flags", v[FLAGS], short(p.flags));
     let delay = differs(at, b"delay", v[DELAY], short(p.delay));
     let max = differs(at, b"max", v[MAX], short(p.max_size));
-    send + recv + seq + ack + flags + delay + max
+    flags + delay + max
 }
 
 // A part that is there stands where i2pd says; one that is absent has no byte.
@@ -152,19 +158,25 @@ fn placed(at: u64, name: &[u8], said_at: u64, said_len: u64, s: Span) -> u64
 }
 
 fn places(at: u64, v: &Values, p: Packet) -> u64
-    ensures { λ r. ⌜ r ≤ 8 ⌝ }
+    ensures { λ r. ⌜ r ≤ 5 ⌝ }
 {
     let nacks = p.nacks;
     let destination = p.destination;
     let signature = p.signature;
-    let payload = p.payload;
     let count = differs(at, b"nacks", v[NACKS], size(nacks.len) / 4);
     let dest = placed(at, b"dest", v[DEST_AT], v[DEST_LEN], destination);
     let sig = placed(at, b"sig", v[SIG_AT], v[SIG_LEN], signature);
+    count + dest + sig
+}
+
+fn rest(at: u64, v: &Values, p: Packet) -> u64
+    ensures { λ r. ⌜ r ≤ 3 ⌝ }
+{
+    let payload = p.payload;
     let start = differs(at, b"payload_at", v[PAYLOAD_AT], size(payload.at));
     let length = differs(at, b"payload_len", v[PAYLOAD_LEN], size(payload.len));
     let leftover = differs(at, b"leftover", 0, size(p.leftover));
-    count + dest + sig + start + length + leftover
+    start + length + leftover
 }
 
 // The option area ends where the payload begins.
@@ -238,6 +250,13 @@ fn again_differs(at: u64, bytes: &[u8], p: Packet) -> u64
     1
 }
 
+// How many fields of a packet that is read differ from what i2pd says.
+fn fields(at: u64, v: &Values, p: Packet) -> u64
+    ensures { λ r. ⌜ r ≤ 16 ⌝ }
+{
+    ids(at, v, p) + numbers(at, v, p) + places(at, v, p) + rest(at, v, p) + options(at, v, p)
+}
+
 // How many things differ from what is expected of the line.
 fn wrongs(at: u64, v: &Values, bytes: &[u8], wanted: u64) -> u64 {
     match packet::read(bytes) {
@@ -246,11 +265,7 @@ fn wrongs(at: u64, v: &Values, bytes: &[u8], wanted: u64) -> u64 {
             if wanted != 0 {
                 return differs(at, b"refusal", wanted, 0);
             }
-            numbers(at, v, p)
-                + places(at, v, p)
-                + options(at, v, p)
-                + parts(at, v, bytes)
-                + again_differs(at, bytes, p)
+            fields(at, v, p) + parts(at, v, bytes) + again_differs(at, bytes, p)
         }
     }
 }
@@ -323,42 +338,26 @@ fn tell(name: &[u8], answer: &[u8], lines: &Counts, right: &Counts, kind: usize)
     }
 }
 
-fn tell_kinds(lines: &Counts, right: &Counts) {
+fn tell_read(lines: &Counts, right: &Counts) {
     let read = b"read as i2pd reads them, and written again the same\n";
-    let refused4 = b"refused 4\n";
+    let offline = b"i2pd, Ed25519 destination and offline block";
     tell(b"i2pd, no destination", read, lines, right, NO_DESTINATION);
     tell(b"i2pd, Ed25519 destination", read, lines, right, ED25519);
-    tell(
-        b"i2pd, Ed25519 destination and offline block",
-        b"refused 6\n",
-        lines,
-        right,
-        OFFLINE,
-    );
-    tell(b"i2pd, DSA destination", refused4, lines, right, DSA);
-    tell(
-        b"i2pd, ECDSA P-256 destination",
-        refused4,
-        lines,
-        right,
-        P256,
-    );
-    tell(
-        b"i2pd, ECDSA P-384 destination",
-        refused4,
-        lines,
-        right,
-        P384,
-    );
-    tell(
-        b"i2pd, ECDSA P-521 destination",
-        refused4,
-        lines,
-        right,
-        P521,
-    );
-    tell(b"i2pd, RedDSA destination", refused4, lines, right, RED_DSA);
-    tell(b"i2pd, other lines", refused4, lines, right, OTHER);
+    tell(offline, b"refused 6\n", lines, right, OFFLINE);
+}
+
+fn tell_refused(name: &[u8], lines: &Counts, right: &Counts, kind: usize) {
+    tell(name, b"refused 4\n", lines, right, kind);
+}
+
+fn tell_kinds(lines: &Counts, right: &Counts) {
+    tell_read(lines, right);
+    tell_refused(b"i2pd, DSA destination", lines, right, DSA);
+    tell_refused(b"i2pd, ECDSA P-256 destination", lines, right, P256);
+    tell_refused(b"i2pd, ECDSA P-384 destination", lines, right, P384);
+    tell_refused(b"i2pd, ECDSA P-521 destination", lines, right, P521);
+    tell_refused(b"i2pd, RedDSA destination", lines, right, RED_DSA);
+    tell_refused(b"i2pd, other lines", lines, right, OTHER);
 }
 
 fn tell_all(lines: &Counts, right: &Counts) {

@@ -11,6 +11,12 @@ length-requires c κs = search needs
 returns : tie.Need-returns
 returns c = search needs
 
+length-requires-2 : tie.Need-length-requires-2
+length-requires-2 c κs = search needs
+
+front-requires : tie.Need-front-requires
+front-requires c κs = search needs
+
 slice-relend-prefix-accept : tie.Need-slice-relend-prefix-accept
 slice-relend-prefix-accept c = search needs
 
@@ -32,6 +38,8 @@ accept-to-spec =
     (tie.spec
     length-requires
     returns
+    length-requires-2
+    front-requires
     slice-relend-prefix-accept
     slice-aggregate-accept
     accept-requires

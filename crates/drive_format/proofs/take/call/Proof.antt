@@ -5,27 +5,13 @@ use Rattle.drive_format.proofs.take.call.Statement.{statement}
 use Rattle.drive_format.proofs.take.call.Tie as tie
 
 abbrev Inv-loop : tie.InvT-loop
-Inv-loop window₀ bank₀ given₀ out₀ received₀ sent₀ letter asked i₀ window bank given out received sent i =
-    i ≤ 16
+Inv-loop bank₀ given₀ out₀ received₀ sent₀ letter asked i₀ bank given out received sent i = i ≤ 16
 
 abbrev μ-loop : tie.MeasureT-loop
-μ-loop window₀ bank₀ given₀ out₀ received₀ sent₀ letter asked i₀ window bank given out received sent i =
-    16 - i
+μ-loop bank₀ given₀ out₀ received₀ sent₀ letter asked i₀ bank given out received sent i = 16 - i
 
-find-requires : tie.Need-find-requires Inv-loop μ-loop
-find-requires c κs = search needs
-
-spoil-requires : tie.Need-spoil-requires Inv-loop μ-loop
-spoil-requires c κs = search needs
-
-returns : tie.Need-returns Inv-loop μ-loop
-returns c = search needs
-
-put-requires : tie.Need-put-requires Inv-loop μ-loop
-put-requires c κs = search needs
-
-length-requires : tie.Need-length-requires Inv-loop μ-loop
-length-requires c κs = search needs
+begin-requires : tie.Need-begin-requires Inv-loop μ-loop
+begin-requires c κs = search needs
 
 loop-holds : tie.Need-loop-holds Inv-loop μ-loop
 loop-holds c = search needs
@@ -36,8 +22,8 @@ add-at c = search needs
 at-requires : tie.Need-at-requires Inv-loop μ-loop
 at-requires c κs = search needs
 
-returns-2 : tie.Need-returns-2 Inv-loop μ-loop
-returns-2 c = search needs
+returns : tie.Need-returns Inv-loop μ-loop
+returns c = search needs
 
 field-requires : tie.Need-field-requires Inv-loop μ-loop
 field-requires c κs = search needs
@@ -51,8 +37,8 @@ loop-less c = search needs
 loop-again : tie.Need-loop-again Inv-loop μ-loop
 loop-again c = search needs
 
-returns-3 : tie.Need-returns-3 Inv-loop μ-loop
-returns-3 c = search needs
+returns-2 : tie.Need-returns-2 Inv-loop μ-loop
+returns-2 c = search needs
 
 pub call-spec : {M : Type 1} → statement M
 call-spec =
@@ -60,17 +46,13 @@ call-spec =
     (tie.spec
     Inv-loop
     μ-loop
-    find-requires
-    spoil-requires
-    returns
-    put-requires
-    length-requires
+    begin-requires
     loop-holds
     add-at
     at-requires
-    returns-2
+    returns
     field-requires
     add-i
     loop-less
     loop-again
-    returns-3)
+    returns-2)

@@ -5,19 +5,13 @@ use Rattle.drive_format.proofs.take.list.Statement.{statement}
 use Rattle.drive_format.proofs.take.list.Tie as tie
 
 abbrev Inv-loop : tie.InvT-loop
-Inv-loop window₀ bank₀ at kind most n k₀ window bank k = k ≤ n
+Inv-loop bank₀ at kind most n k₀ bank k = k ≤ n
 
 abbrev μ-loop : tie.MeasureT-loop
-μ-loop window₀ bank₀ at kind most n k₀ window bank k = n - k
+μ-loop bank₀ at kind most n k₀ bank k = n - k
 
-number-requires : tie.Need-number-requires Inv-loop μ-loop
-number-requires c κs = search needs
-
-spoil-requires : tie.Need-spoil-requires Inv-loop μ-loop
-spoil-requires c κs = search needs
-
-returns : tie.Need-returns Inv-loop μ-loop
-returns c = search needs
+limited-requires : tie.Need-limited-requires Inv-loop μ-loop
+limited-requires c κs = search needs
 
 put-requires : tie.Need-put-requires Inv-loop μ-loop
 put-requires c κs = search needs
@@ -37,8 +31,8 @@ loop-less c = search needs
 loop-again : tie.Need-loop-again Inv-loop μ-loop
 loop-again c = search needs
 
-returns-2 : tie.Need-returns-2 Inv-loop μ-loop
-returns-2 c = search needs
+returns : tie.Need-returns Inv-loop μ-loop
+returns c = search needs
 
 pub list-spec : {M : Type 1} → statement M
 list-spec =
@@ -46,13 +40,11 @@ list-spec =
     (tie.spec
     Inv-loop
     μ-loop
-    number-requires
-    spoil-requires
-    returns
+    limited-requires
     put-requires
     loop-holds
     item-requires
     add-k
     loop-less
     loop-again
-    returns-2)
+    returns)

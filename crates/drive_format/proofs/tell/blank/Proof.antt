@@ -5,10 +5,10 @@ use Rattle.drive_format.proofs.tell.blank.Statement.{statement}
 use Rattle.drive_format.proofs.tell.blank.Tie as tie
 
 abbrev Inv-loop : tie.InvT-loop
-Inv-loop bank at width i₀ i = i ≤ width
+Inv-loop bank from width i₀ i = i ≤ width
 
 abbrev μ-loop : tie.MeasureT-loop
-μ-loop bank at width i₀ i = width - i
+μ-loop bank from width i₀ i = width - i
 
 loop-holds : tie.Need-loop-holds Inv-loop μ-loop
 loop-holds c = search needs

@@ -4,10 +4,10 @@ use Rattle.drive_format.proofs.tell.filled.Statement.{statement}
 use Rattle.drive_format.proofs.tell.filled.Tie as tie
 
 abbrev Inv-loop : tie.InvT-loop
-Inv-loop bank at rows width n₀ i₀ place₀ n i place = Unit {0}
+Inv-loop bank from rows width n₀ i₀ place₀ n i place = Unit {0}
 
 abbrev μ-loop : tie.MeasureT-loop
-μ-loop bank at rows width n₀ i₀ place₀ n i place = i
+μ-loop bank from rows width n₀ i₀ place₀ n i place = i
 
 loop-holds : tie.Need-loop-holds Inv-loop μ-loop
 loop-holds c = search needs

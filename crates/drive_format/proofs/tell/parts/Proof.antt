@@ -5,13 +5,10 @@ use Rattle.drive_format.proofs.tell.parts.Statement.{statement}
 use Rattle.drive_format.proofs.tell.parts.Tie as tie
 
 abbrev Inv-loop : tie.InvT-loop
-Inv-loop page₀ bank₀ at i₀ page bank i = i ≤ 1000
+Inv-loop page₀ at bank told end₀ i₀ page end i = i ≤ 1000
 
 abbrev μ-loop : tie.MeasureT-loop
-μ-loop page₀ bank₀ at i₀ page bank i = 1000 - i
-
-length-requires : tie.Need-length-requires Inv-loop μ-loop
-length-requires c κs = search needs
+μ-loop page₀ at bank told end₀ i₀ page end i = 1000 - i
 
 loop-holds : tie.Need-loop-holds Inv-loop μ-loop
 loop-holds c = search needs
@@ -21,6 +18,9 @@ add-at c = search needs
 
 at-requires : tie.Need-at-requires Inv-loop μ-loop
 at-requires c κs = search needs
+
+byte-requires : tie.Need-byte-requires Inv-loop μ-loop
+byte-requires c κs = search needs
 
 returns : tie.Need-returns Inv-loop μ-loop
 returns c = search needs
@@ -46,10 +46,10 @@ parts-spec =
     (tie.spec
     Inv-loop
     μ-loop
-    length-requires
     loop-holds
     add-at
     at-requires
+    byte-requires
     returns
     part-requires
     add-i

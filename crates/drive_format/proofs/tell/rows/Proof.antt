@@ -5,10 +5,10 @@ use Rattle.drive_format.proofs.tell.rows.Statement.{statement}
 use Rattle.drive_format.proofs.tell.rows.Tie as tie
 
 abbrev Inv-loop : tie.InvT-loop
-Inv-loop page₀ bank₀ at rows width n place₀ i₀ page bank place i = i ≤ rows
+Inv-loop page₀ at bank from rows width end₀ place₀ i₀ page end place i = i ≤ rows
 
 abbrev μ-loop : tie.MeasureT-loop
-μ-loop page₀ bank₀ at rows width n place₀ i₀ page bank place i = rows - i
+μ-loop page₀ at bank from rows width end₀ place₀ i₀ page end place i = rows - i
 
 filled-requires : tie.Need-filled-requires Inv-loop μ-loop
 filled-requires c κs = search needs

@@ -5,13 +5,10 @@ use Rattle.drive_format.proofs.tell.word.Statement.{statement}
 use Rattle.drive_format.proofs.tell.word.Tie as tie
 
 abbrev Inv-loop : tie.InvT-loop
-Inv-loop page₀ bank₀ at i₀ page bank i = i ≤ 1000
+Inv-loop page₀ word end₀ i₀ page end i = i ≤ 1000
 
 abbrev μ-loop : tie.MeasureT-loop
-μ-loop page₀ bank₀ at i₀ page bank i = 1000 - i
-
-length-requires : tie.Need-length-requires Inv-loop μ-loop
-length-requires c κs = search needs
+μ-loop page₀ word end₀ i₀ page end i = 1000 - i
 
 loop-holds : tie.Need-loop-holds Inv-loop μ-loop
 loop-holds c = search needs
@@ -46,7 +43,6 @@ word-spec =
     (tie.spec
     Inv-loop
     μ-loop
-    length-requires
     loop-holds
     add-at
     at-requires

@@ -5,10 +5,10 @@ use Rattle.script.proofs.output.numbers.Statement.{statement}
 use Rattle.script.proofs.output.numbers.Tie as tie
 
 abbrev Inv-loop : tie.InvT-loop
-Inv-loop page₀ bank₀ at n i₀ page bank i = i ≤ n
+Inv-loop page₀ at bank from n end₀ i₀ page end i = i ≤ n
 
 abbrev μ-loop : tie.MeasureT-loop
-μ-loop page₀ bank₀ at n i₀ page bank i = n - i
+μ-loop page₀ at bank from n end₀ i₀ page end i = n - i
 
 loop-holds : tie.Need-loop-holds Inv-loop μ-loop
 loop-holds c = search needs

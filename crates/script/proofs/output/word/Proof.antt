@@ -1,15 +1,15 @@
 -- The measure is what is left of the text.
-use borrow.Author.Needs.{needs}
 use Prim.Native.Nat.{_≤_, _-_}
 use lib.ListN.{length}
+use borrow.Author.Needs.{needs}
 use Rattle.script.proofs.output.word.Statement.{statement}
 use Rattle.script.proofs.output.word.Tie as tie
 
 abbrev Inv-loop : tie.InvT-loop
-Inv-loop page₀ bank₀ text i₀ page bank i = i ≤ length text
+Inv-loop page₀ at text end₀ i₀ page end i = i ≤ length text
 
 abbrev μ-loop : tie.MeasureT-loop
-μ-loop page₀ bank₀ text i₀ page bank i = length text - i
+μ-loop page₀ at text end₀ i₀ page end i = length text - i
 
 loop-holds : tie.Need-loop-holds Inv-loop μ-loop
 loop-holds c = search needs

@@ -27,8 +27,8 @@ sub-loop c = search needs
 mul-sum : tie.Need-mul-sum Inv-loop μ-loop Inv-loop2 μ-loop2
 mul-sum c = search needs
 
-eight-requires : tie.Need-eight-requires Inv-loop μ-loop Inv-loop2 μ-loop2
-eight-requires c κs = search needs
+four-requires : tie.Need-four-requires Inv-loop μ-loop Inv-loop2 μ-loop2
+four-requires c κs = search needs
 
 add-sum : tie.Need-add-sum Inv-loop μ-loop Inv-loop2 μ-loop2
 add-sum c = search needs
@@ -83,7 +83,7 @@ checksum-spec =
     loop-holds
     sub-loop
     mul-sum
-    eight-requires
+    four-requires
     add-sum
     add-i
     loop-less

@@ -1,13 +1,14 @@
 -- A number below 2^56 times 256 and a byte fit 64 bits. The measure is how many bytes are left.
+use Prim.Native.Nat.{_≤_, _-_}
 use borrow.Author.Needs.{needs}
-use Rattle.script.proofs.input.number.Statement.{statement}
-use Rattle.script.proofs.input.number.Tie as tie
+use Rattle.script.proofs.input.big_endian.Statement.{statement}
+use Rattle.script.proofs.input.big_endian.Tie as tie
 
 abbrev Inv-loop : tie.InvT-loop
-Inv-loop window₀ bank₀ width left₀ x₀ window bank left x = Unit {0}
+Inv-loop bytes x₀ i₀ x i = i ≤ 8
 
 abbrev μ-loop : tie.MeasureT-loop
-μ-loop window₀ bank₀ width left₀ x₀ window bank left x = left
+μ-loop bytes x₀ i₀ x i = 8 - i
 
 loop-holds : tie.Need-loop-holds Inv-loop μ-loop
 loop-holds c = search needs
@@ -15,17 +16,17 @@ loop-holds c = search needs
 mul-x : tie.Need-mul-x Inv-loop μ-loop
 mul-x c = search needs
 
-byte-requires : tie.Need-byte-requires Inv-loop μ-loop
-byte-requires c κs = search needs
+element-copy-out-wide : tie.Need-element-copy-out-wide Inv-loop μ-loop
+element-copy-out-wide c = search needs
 
-cast-x : tie.Need-cast-x Inv-loop μ-loop
-cast-x c = search needs
+wide-requires : tie.Need-wide-requires Inv-loop μ-loop
+wide-requires c κs = search needs
 
 add-x : tie.Need-add-x Inv-loop μ-loop
 add-x c = search needs
 
-sub-left : tie.Need-sub-left Inv-loop μ-loop
-sub-left c = search needs
+add-i : tie.Need-add-i Inv-loop μ-loop
+add-i c = search needs
 
 loop-less : tie.Need-loop-less Inv-loop μ-loop
 loop-less c = search needs
@@ -36,18 +37,18 @@ loop-again c = search needs
 returns : tie.Need-returns Inv-loop μ-loop
 returns c = search needs
 
-pub number-spec : {M : Type 1} → statement M
-number-spec =
+pub big-endian-spec : {M : Type 1} → statement M
+big-endian-spec =
     tie.close
     (tie.spec
     Inv-loop
     μ-loop
     loop-holds
     mul-x
-    byte-requires
-    cast-x
+    element-copy-out-wide
+    wide-requires
     add-x
-    sub-left
+    add-i
     loop-less
     loop-again
     returns)
