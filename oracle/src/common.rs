@@ -246,7 +246,7 @@ impl Tally {
 }
 
 /// In hexadecimal, a long input cut: the seed and the index make it again.
-pub fn hex(bytes: &[u8]) -> String {
+fn hex(bytes: &[u8]) -> String {
     let mut text: String = bytes.iter().take(512).map(|byte| format!("{byte:02x}")).collect();
     if bytes.len() > 512 {
         write!(text, ".. ({} bytes in all)", bytes.len()).unwrap();
