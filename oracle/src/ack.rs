@@ -9,7 +9,7 @@ use crate::{
     runtime::Bench,
 };
 
-const MISSING: &str = "more than 255 missing";
+pub const MISSING: &str = "more than 255 missing";
 const OUTPUT: &str = "output too short";
 /// The most NACKs, and the delay that asks the other side to stop.
 const MOST: usize = 255;
@@ -62,10 +62,8 @@ impl Case for Acks {
         for above in &self.accepted {
             rig.accept(self.s + above, &[0]).expect("inside the lookahead");
         }
-        let missing = rig.missing();
         let rust = rig.plain_ack();
-        let (packet, mut listed) =
-            if missing.len() <= MOST { (rust, None) } else { (self.mended(&missing, &rust), Some(MISSING)) };
+        let (packet, mut listed) = mended(&rig, rust);
         let mut output = self.output.bytes();
         let expected = if packet.len() > output.len() {
             listed = Some(OUTPUT);
@@ -78,18 +76,22 @@ impl Case for Acks {
     }
 }
 
-impl Acks {
-    /// Document 01's ack where the Rust's claims what is missing, which is looked at too.
-    fn mended(&self, missing: &[u32], rust: &[u8]) -> Vec<u8> {
-        let claimed = Packet::parse::<Bench>(rust).expect("the Rust's own packet");
-        let highest = self.s + self.accepted.last().expect("something is missing below it");
-        assert!(claimed.ack_through == highest && claimed.nacks == missing[..MOST], "the slip is another one");
-        PacketBuilder::new(self.ids[1])
-            .with_send_stream_id(self.ids[0])
-            .with_ack_through(missing[MOST] - 1)
-            .with_nacks(missing[..MOST].to_vec())
-            .with_delay_requested(CHOKING)
-            .build()
-            .to_vec()
+/// Document 01's packet beside one that the Rust made now, and the name of the difference: with more than 255 missing the Rust
+/// claims some of them, which is looked at too. All but the ack fields is the Rust's.
+pub fn mended(rig: &Rig, rust: Vec<u8>) -> (Vec<u8>, Option<&'static str>) {
+    let missing = rig.missing();
+    if missing.len() <= MOST {
+        return (rust, None);
     }
+    let packet = Packet::parse::<Bench>(&rust).expect("the Rust's own packet");
+    assert!(packet.ack_through == rig.highest() && packet.nacks == missing[..MOST], "the slip is another one");
+    let mended = PacketBuilder::new(packet.recv_stream_id)
+        .with_send_stream_id(packet.send_stream_id)
+        .with_seq_nro(packet.seq_nro)
+        .with_ack_through(missing[MOST] - 1)
+        .with_nacks(missing[..MOST].to_vec())
+        .with_delay_requested(CHOKING)
+        .with_payload(packet.payload)
+        .build();
+    (mended.to_vec(), Some(MISSING))
 }

@@ -4,9 +4,10 @@
 //! The script starts a receiver and a sender ('S', 'Z') and then does what the Rust did: 'a' accept, 'u' submit, 's' send until
 //! it gives 17 or 22, 'c' acks, 'e' resend, 'h' fetch. host.rs notes them; here the runs are drawn.
 use crate::{
+    ack::MISSING,
     calls::{Buffer, Call},
     common::{Answer, Case, Random, Verdict},
-    host::{Host, CHUNK, MISSING, OUTPUT},
+    host::{Host, CHUNK, OUTPUT},
     runtime::Bench,
     step::Step,
     timer::{FIRST, HIGH, LOW, ROUNDED},
