@@ -3,7 +3,7 @@
 use crate::{
     active::Rig,
     calls::{Buffer, Call},
-    common::{checksum, Answer, Case, Random, Verdict},
+    common::{checksum, Answer, Case, Random, Verdict, LAST},
     model::receiver::Receiver,
     packet::{Packet, PacketBuilder},
     runtime::Bench,
@@ -38,7 +38,7 @@ impl Case for Acks {
         let dense = random.from_to(1, 12);
         let accepted = (1..=highest).filter(|number| *number == highest || random.below(12) >= dense).collect();
         let output = if random.one_in(8) { random.below(1_044) } else { random.from_to(1_044, 1_100) };
-        let s = random.word().min(4_294_967_294 - 512);
+        let s = random.word().min(LAST - 512);
         Self { s, accepted, ids: [random.word(), random.word()], output: random.buffer(output) }
     }
 

@@ -1,9 +1,12 @@
-//! What every topic shares: seeded numbers, scripts for our program, its answer lines, and the tally of a comparison.
+//! What every topic shares: the last number, seeded numbers, scripts for our program, its answer lines, and the tally of a comparison.
 use crate::calls::Buffer;
 use std::{
     fmt::{Display, Write as _},
     io::{BufRead, Lines, StdinLock},
 };
+
+/// The last number that a packet may have.
+pub const LAST: u32 = 4_294_967_294;
 
 /// The checksum in which both sides speak of bytes: for each byte, sum × 1,000,003 + byte + 1, mod 4,294,967,291.
 pub fn checksum(bytes: &[u8]) -> u64 {

@@ -6,7 +6,7 @@
 use crate::{
     ack::MISSING,
     calls::{Buffer, Call},
-    common::{Answer, Case, Random, Verdict},
+    common::{Answer, Case, Random, Verdict, LAST},
     host::{Host, CHUNK, OUTPUT},
     runtime::Bench,
     step::Step,
@@ -20,8 +20,6 @@ use std::{
 const SLOTS: &str = "fewer free slots than packets";
 const NUMBERS: &str = "numbers used up";
 const NACKS: &str = "more than 255 NACKs";
-/// The last number that a packet may have.
-const LAST: u32 = 4_294_967_294;
 /// Clocks and timers stay below 2^32.
 const LATEST: u64 = (1 << 32) - 100_000;
 

@@ -6,7 +6,7 @@ use super::{
     sender::{Place, Sender, FREE, IN_FLIGHT, WAITING},
     timer::{fallen, grown, rto, sampled},
     write::Fields,
-    Refusal, LAST,
+    Refusal, TOP,
 };
 
 /// How many packets were made.
@@ -27,7 +27,7 @@ pub fn submit(
             (10, !sender.wrong(Some(store)).is_empty() || !receiver.wrong(None).is_empty()),
             (21, !sender.marked(WAITING).is_empty()),
             (19, bytes.is_empty() || bytes.len() > 65_535),
-            (20, behind_last > LAST.into()),
+            (20, behind_last > TOP.into()),
             (18, free.len() < count),
         ],
     )?;
