@@ -1,4 +1,4 @@
-//! What every topic shares: the last number, seeded numbers, scripts for our program, its answer lines, and the tally of a comparison.
+//! What every topic shares: the last number, seeded numbers, our program's answer lines, and the tally of a comparison.
 use crate::calls::Buffer;
 use std::{
     fmt::{Display, Write as _},
@@ -78,41 +78,6 @@ impl Random {
             1 | 2 => self.next() as u32 >> 16,
             _ => self.next() as u32,
         }
-    }
-}
-
-/// A script for our program: numbers big-endian, `bytes` led by their length in 32 bits.
-#[derive(Default)]
-pub struct Script(pub Vec<u8>);
-
-impl Script {
-    pub fn u8(mut self, number: u8) -> Self {
-        self.0.push(number);
-        self
-    }
-    pub fn u16(mut self, number: u16) -> Self {
-        self.0.extend(number.to_be_bytes());
-        self
-    }
-    pub fn u32(mut self, number: u32) -> Self {
-        self.0.extend(number.to_be_bytes());
-        self
-    }
-    pub fn u64(mut self, number: u64) -> Self {
-        self.0.extend(number.to_be_bytes());
-        self
-    }
-    pub fn bytes(mut self, bytes: &[u8]) -> Self {
-        self.0.extend((bytes.len() as u32).to_be_bytes());
-        self.0.extend(bytes);
-        self
-    }
-    pub fn buffer(self, buffer: &Buffer) -> Self {
-        self.u32(buffer.length as u32).u8(buffer.fill).bytes(&buffer.front)
-    }
-    /// A count of 16 bits, then the numbers.
-    pub fn numbers(self, numbers: &[u32]) -> Self {
-        numbers.iter().fold(self.u16(numbers.len() as u16), |script, number| script.u32(*number))
     }
 }
 
