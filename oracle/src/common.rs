@@ -127,8 +127,8 @@ impl Answers {
 /// What the comparison of one case came to.
 pub enum Verdict {
     Equal,
-    /// A difference of NOTES.md, by its name there: ours answered exactly as it says; NOTES.md says where
-    /// the Rust's half is checked too.
+    /// A difference of docs/DIFFERENCES.md, by its name there: ours answered exactly as it says; NOTES.md says where the Rust's
+    /// half is checked too.
     Listed(&'static str),
     Unlisted(String),
 }
