@@ -9,6 +9,10 @@ use super::{
     Refusal, TOP,
 };
 
+/// What 11 and 10 of a submit are about: it tests both states.
+pub const STATES: [&str; 2] = ["the sender's state", "the receiver's state"];
+pub const SIZES: [&str; 2] = ["the sender's sizes", "the receiver's slot size"];
+
 /// How many packets were made.
 pub fn submit(
     sender: &mut Sender,
