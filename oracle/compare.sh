@@ -1,6 +1,6 @@
 #!/bin/sh
 # oracle/compare.sh TOPIC SEED COUNT: the same calls to our program `drive` and to the Rust as given, answers compared.
-# It fails where an answer differs in a way that is on no list (oracle/NOTES.md, docs/DIFFERENCES.md).
+# It fails where an answer differs in a way that is on no list (docs/DIFFERENCES.md).
 set -eu
 cd "$(dirname "$0")/.."
 oracle=target/oracle/oracle

@@ -3,13 +3,13 @@
 use crate::{
     active::Rig,
     calls::{Buffer, Call},
-    common::{checksum, Answer, Case, Random, Verdict},
+    common::{checksum, Answer, Case, Random, Verdict, LAST},
     model::receiver::Receiver,
     packet::{Packet, PacketBuilder},
     runtime::Bench,
 };
 
-const MISSING: &str = "more than 255 missing";
+pub const MISSING: &str = "more than 255 missing";
 const OUTPUT: &str = "output too short";
 /// The most NACKs, and the delay that asks the other side to stop.
 const MOST: usize = 255;
@@ -38,7 +38,7 @@ impl Case for Acks {
         let dense = random.from_to(1, 12);
         let accepted = (1..=highest).filter(|number| *number == highest || random.below(12) >= dense).collect();
         let output = if random.one_in(8) { random.below(1_044) } else { random.from_to(1_044, 1_100) };
-        let s = random.word().min(4_294_967_294 - 512);
+        let s = random.word().min(LAST - 512);
         Self { s, accepted, ids: [random.word(), random.word()], output: random.buffer(output) }
     }
 
@@ -62,10 +62,8 @@ impl Case for Acks {
         for above in &self.accepted {
             rig.accept(self.s + above, &[0]).expect("inside the lookahead");
         }
-        let missing = rig.missing();
         let rust = rig.plain_ack();
-        let (packet, mut listed) =
-            if missing.len() <= MOST { (rust, None) } else { (self.mended(&missing, &rust), Some(MISSING)) };
+        let (packet, mut listed) = mended(&rig, rust);
         let mut output = self.output.bytes();
         let expected = if packet.len() > output.len() {
             listed = Some(OUTPUT);
@@ -78,18 +76,22 @@ impl Case for Acks {
     }
 }
 
-impl Acks {
-    /// Document 01's ack where the Rust's claims what is missing, which is looked at too.
-    fn mended(&self, missing: &[u32], rust: &[u8]) -> Vec<u8> {
-        let claimed = Packet::parse::<Bench>(rust).expect("the Rust's own packet");
-        let highest = self.s + self.accepted.last().expect("something is missing below it");
-        assert!(claimed.ack_through == highest && claimed.nacks == missing[..MOST], "the slip is another one");
-        PacketBuilder::new(self.ids[1])
-            .with_send_stream_id(self.ids[0])
-            .with_ack_through(missing[MOST] - 1)
-            .with_nacks(missing[..MOST].to_vec())
-            .with_delay_requested(CHOKING)
-            .build()
-            .to_vec()
+/// Document 01's packet beside one that the Rust made now, and the name of the difference: with more than 255 missing the Rust
+/// claims some of them, which is looked at too. All but the ack fields is the Rust's.
+pub fn mended(rig: &Rig, rust: Vec<u8>) -> (Vec<u8>, Option<&'static str>) {
+    let missing = rig.missing();
+    if missing.len() <= MOST {
+        return (rust, None);
     }
+    let packet = Packet::parse::<Bench>(&rust).expect("the Rust's own packet");
+    assert!(packet.ack_through == rig.highest() && packet.nacks == missing[..MOST], "the slip is another one");
+    let mended = PacketBuilder::new(packet.recv_stream_id)
+        .with_send_stream_id(packet.send_stream_id)
+        .with_seq_nro(packet.seq_nro)
+        .with_ack_through(missing[MOST] - 1)
+        .with_nacks(missing[..MOST].to_vec())
+        .with_delay_requested(CHOKING)
+        .with_payload(packet.payload)
+        .build();
+    (mended.to_vec(), Some(MISSING))
 }

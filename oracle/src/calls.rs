@@ -1,8 +1,5 @@
 //! The calls of a script, and how each is written: the table of docs/DRIVE.md.
-use crate::{
-    common::Script,
-    model::{receiver::Receiver, sender::Place, write::Fields},
-};
+use crate::model::{receiver::Receiver, sender::Place, write::Fields};
 
 /// `length` bytes: `front`, and behind it `fill` in every byte.
 #[derive(Clone, Default)]
@@ -95,6 +92,41 @@ impl Call {
             Self::Fetch { rank, output } => call(b'h').u32(*rank).buffer(output),
         }
         .0
+    }
+}
+
+/// What a call asks: numbers big-endian, `bytes` led by their length in 32 bits.
+#[derive(Default)]
+struct Script(Vec<u8>);
+
+impl Script {
+    fn u8(mut self, number: u8) -> Self {
+        self.0.push(number);
+        self
+    }
+    fn u16(mut self, number: u16) -> Self {
+        self.0.extend(number.to_be_bytes());
+        self
+    }
+    fn u32(mut self, number: u32) -> Self {
+        self.0.extend(number.to_be_bytes());
+        self
+    }
+    fn u64(mut self, number: u64) -> Self {
+        self.0.extend(number.to_be_bytes());
+        self
+    }
+    fn bytes(mut self, bytes: &[u8]) -> Self {
+        self.0.extend((bytes.len() as u32).to_be_bytes());
+        self.0.extend(bytes);
+        self
+    }
+    fn buffer(self, buffer: &Buffer) -> Self {
+        self.u32(buffer.length as u32).u8(buffer.fill).bytes(&buffer.front)
+    }
+    /// A count of 16 bits, then the numbers.
+    fn numbers(self, numbers: &[u32]) -> Self {
+        numbers.iter().fold(self.u16(numbers.len() as u16), |script, number| script.u32(*number))
     }
 }
 

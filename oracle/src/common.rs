@@ -1,9 +1,12 @@
-//! What every topic shares: seeded numbers, scripts for our program, its answer lines, and the tally of a comparison.
+//! What every topic shares: the last number, seeded numbers, our program's answer lines, and the tally of a comparison.
 use crate::calls::Buffer;
 use std::{
     fmt::{Display, Write as _},
     io::{BufRead, Lines, StdinLock},
 };
+
+/// The last number that a packet may have.
+pub const LAST: u32 = 4_294_967_294;
 
 /// The checksum in which both sides speak of bytes: for each byte, sum × 1,000,003 + byte + 1, mod 4,294,967,291.
 pub fn checksum(bytes: &[u8]) -> u64 {
@@ -78,41 +81,6 @@ impl Random {
     }
 }
 
-/// A script for our program: numbers big-endian, `bytes` led by their length in 32 bits.
-#[derive(Default)]
-pub struct Script(pub Vec<u8>);
-
-impl Script {
-    pub fn u8(mut self, number: u8) -> Self {
-        self.0.push(number);
-        self
-    }
-    pub fn u16(mut self, number: u16) -> Self {
-        self.0.extend(number.to_be_bytes());
-        self
-    }
-    pub fn u32(mut self, number: u32) -> Self {
-        self.0.extend(number.to_be_bytes());
-        self
-    }
-    pub fn u64(mut self, number: u64) -> Self {
-        self.0.extend(number.to_be_bytes());
-        self
-    }
-    pub fn bytes(mut self, bytes: &[u8]) -> Self {
-        self.0.extend((bytes.len() as u32).to_be_bytes());
-        self.0.extend(bytes);
-        self
-    }
-    pub fn buffer(self, buffer: &Buffer) -> Self {
-        self.u32(buffer.length as u32).u8(buffer.fill).bytes(&buffer.front)
-    }
-    /// A count of 16 bits, then the numbers.
-    pub fn numbers(self, numbers: &[u32]) -> Self {
-        numbers.iter().fold(self.u16(numbers.len() as u16), |script, number| script.u32(*number))
-    }
-}
-
 /// An answer line: a word, then decimal numbers.
 #[derive(PartialEq)]
 pub struct Answer {
@@ -159,8 +127,8 @@ impl Answers {
 /// What the comparison of one case came to.
 pub enum Verdict {
     Equal,
-    /// A difference of NOTES.md, by its name there: ours answered exactly as it says; NOTES.md says where
-    /// the Rust's half is checked too.
+    /// A difference of docs/DIFFERENCES.md, by its name there: ours answered exactly as it says; NOTES.md says where the Rust's
+    /// half is checked too.
     Listed(&'static str),
     Unlisted(String),
 }
@@ -246,7 +214,7 @@ impl Tally {
 }
 
 /// In hexadecimal, a long input cut: the seed and the index make it again.
-pub fn hex(bytes: &[u8]) -> String {
+fn hex(bytes: &[u8]) -> String {
     let mut text: String = bytes.iter().take(512).map(|byte| format!("{byte:02x}")).collect();
     if bytes.len() > 512 {
         write!(text, ".. ({} bytes in all)", bytes.len()).unwrap();

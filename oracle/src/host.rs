@@ -1,10 +1,11 @@
 //! A host that drives the Rust's stream and notes, for each thing that the Rust did, the calls of ours that do the same and what
 //! they must answer. The Rust does several things in one `poll`; the state is compared where the Rust shows it, at the end.
 use crate::{
+    ack::{self, MISSING},
     active::Rig,
     calls::{Buffer, Call},
     common::{checksum, Random},
-    packet::{Packet, PacketBuilder},
+    packet::Packet,
     runtime::Bench,
     step::Step,
     timer,
@@ -12,7 +13,6 @@ use crate::{
 use std::collections::{BTreeMap, BTreeSet, VecDeque};
 
 pub const OUTPUT: &str = "output too short";
-pub const MISSING: &str = "more than 255 missing";
 
 /// What the Rust cuts at.
 pub const CHUNK: usize = 1_812;
@@ -146,10 +146,10 @@ impl Host {
     fn submitted(&mut self, message: Vec<u8>) -> Vec<u32> {
         let first = self.packets.last_key_value().map_or(self.first(), |(number, _)| number + 1);
         let numbers: Vec<u32> = (first..).take(message.len().div_ceil(CHUNK)).collect();
-        let missing = self.rig.missing();
         for number in &numbers {
             let rust = self.rig.packet(*number).expect("it was just made").to_vec();
-            let packet = if missing.len() <= 255 { rust } else { self.mend(&rust, &missing) };
+            let (packet, listed) = ack::mended(&self.rig, rust);
+            self.mended.extend(listed.map(|_| *number));
             let i = self.places.iter().position(Option::is_none).expect("the run keeps places free");
             self.places[i] = Some(*number);
             self.store[i * PLACE..i * PLACE + packet.len()].copy_from_slice(&packet);
@@ -168,22 +168,6 @@ impl Host {
             Call::Begin { first, .. } => first,
             _ => unreachable!("the second call starts the sender"),
         }
-    }
-
-    /// Document 01's packet where the Rust's claims what is missing.
-    fn mend(&mut self, rust: &[u8], missing: &[u32]) -> Vec<u8> {
-        let packet = Packet::parse::<Bench>(rust).expect("the Rust's own packet");
-        assert!(packet.ack_through == self.rig.highest() && packet.nacks == missing[..255], "the slip is another one");
-        self.mended.insert(packet.seq_nro);
-        PacketBuilder::new(self.ids[1])
-            .with_send_stream_id(self.ids[0])
-            .with_seq_nro(packet.seq_nro)
-            .with_ack_through(missing[255] - 1)
-            .with_nacks(missing[..255].to_vec())
-            .with_delay_requested(60_001)
-            .with_payload(packet.payload)
-            .build()
-            .to_vec()
     }
 
     /// Writes a packet into an output of some length, after one that is too short now and then.

@@ -12,7 +12,6 @@ mod read;
 mod receive;
 mod samples;
 mod send;
-mod show;
 mod slips;
 mod stand_in;
 mod step;
@@ -21,7 +20,8 @@ mod write;
 // The given text looks for these at the root of its crate.
 use stand_in::{crypto, destination, error, primitives, runtime, sam};
 
-#[allow(unused)]
+// The given text logs to nothing here, and only a part of it is asked for.
+#[allow(dead_code, unused_variables)]
 #[path = "../../target/oracle/active.rs"]
 mod active;
 #[path = "../../target/oracle/packet.rs"]
@@ -44,10 +44,6 @@ fn main() -> ExitCode {
             true
         }
         ["model", "answer"] => answer_script().is_ok(),
-        ["stream", "show"] => {
-            show::show();
-            true
-        }
         [topic, action @ ("gen" | "check"), seed, count] => {
             let (Ok(seed), Ok(count)) = (seed.parse(), count.parse()) else { return usage() };
             match topic {
@@ -78,7 +74,6 @@ fn main() -> ExitCode {
 const USAGE: &str = "usage: oracle read|write|receive|ack|timer|sender|model gen|check SEED COUNT
        oracle receive slips gen|check
        oracle model answer
-       oracle stream show
        oracle lamps";
 
 fn usage() -> ExitCode {

@@ -1,10 +1,7 @@
 //! `Packet::parse` on any bytes.
-//!
-//! Script: 'r', packet bytes. Answer: `read CODE` if refused, else `read 0 SEND RECV SEQ ACK RESEND FLAGS DELAY MAX NACKS_AT
-//! NACKS_LEN DEST_AT DEST_LEN SIG_AT SIG_LEN PAYLOAD_AT PAYLOAD_LEN LEFTOVER NACKS_SUM DEST_SUM SIG_SUM PAYLOAD_SUM`: lengths in
-//! bytes, an absent part empty and where it would have stood in wire order, the sums over the parts' bytes.
 use crate::{
-    common::{self, checksum, Answer, Random, Script, Verdict},
+    calls::Call,
+    common::{self, checksum, Answer, Random, Verdict},
     packet::{Packet, Part},
     runtime::Bench,
     samples::{self, Sample},
@@ -29,7 +26,7 @@ impl common::Case for Case {
     }
 
     fn script(&self) -> Vec<u8> {
-        Script::default().u8(b'r').bytes(&self.0).0
+        Call::Read(self.0.clone()).script()
     }
 
     fn compare(&self, ours: &[Answer]) -> Vec<Verdict> {
@@ -70,7 +67,7 @@ fn framed_noise(random: &mut Random) -> Vec<u8> {
     sample.packet()
 }
 
-/// What the Rust found, in the order of the answer line.
+/// What the Rust found, in the order of the answer line (docs/DRIVE.md).
 fn fields(read: &Packet<'_>, packet: &[u8], signature: Part<'_>) -> Vec<u64> {
     let nacks: Vec<u8> = read.nacks.iter().flat_map(|nack| nack.to_be_bytes()).collect();
     let nacks = Part { at: 17, bytes: &nacks };

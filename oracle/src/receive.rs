@@ -5,13 +5,11 @@
 use crate::{
     active::Inbound,
     calls::{Buffer, Call},
-    common::{checksum, Answer, Case, Random, Verdict},
+    common::{checksum, Answer, Case, Random, Verdict, LAST},
 };
 use std::collections::BTreeMap;
 
 const OUTPUT: &str = "output too short";
-/// The last number that can be used.
-const LAST: u64 = 4_294_967_294;
 
 pub struct Sequence(Vec<Call>);
 
@@ -122,10 +120,10 @@ struct Draft {
 impl Draft {
     fn sequence(random: &mut Random) -> Sequence {
         let s = match random.below(8) {
-            0 => LAST - random.below(40) as u64,
-            1 => LAST - random.below(700) as u64,
+            0 => LAST - random.below(40) as u32,
+            1 => LAST - random.below(700) as u32,
             2 | 3 => 0,
-            _ => u64::from(random.word()).min(LAST),
+            _ => random.word().min(LAST),
         };
         // Our program sums the whole store after each accept, so large slots are rare.
         let slot = match random.below(400) {
@@ -133,8 +131,9 @@ impl Draft {
             1..=9 => random.from_to(1, 40),
             _ => random.from_to(1, 3),
         };
-        let start = Call::Start { s: s as u32, slot: slot as u32, store: Buffer::of(512 * slot, random.byte()) };
-        let mut draft = Self { calls: vec![start], slot, next: s + 1, highest: s, held: BTreeMap::new() };
+        let start = Call::Start { s, slot: slot as u32, store: Buffer::of(512 * slot, random.byte()) };
+        let (next, highest) = (u64::from(s) + 1, s.into());
+        let mut draft = Self { calls: vec![start], slot, next, highest, held: BTreeMap::new() };
         let calls = if random.one_in(100) { random.from_to(300, 900) } else { random.from_to(1, 40) };
         // Some sequences are mostly in order, some mostly gaps, some seldom taken from.
         let [jumps, fills, takes] = [random.from_to(1, 12), random.from_to(1, 12), random.from_to(1, 12)];
@@ -159,7 +158,7 @@ impl Draft {
     }
 
     fn accept(&mut self, random: &mut Random, number: u64) {
-        if number > LAST || number - self.next >= 512 {
+        if number > LAST.into() || number - self.next >= 512 {
             return;
         }
         let length = if random.one_in(2) { self.slot } else { random.from_to(1, self.slot) };

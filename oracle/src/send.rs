@@ -4,9 +4,10 @@
 //! The script starts a receiver and a sender ('S', 'Z') and then does what the Rust did: 'a' accept, 'u' submit, 's' send until
 //! it gives 17 or 22, 'c' acks, 'e' resend, 'h' fetch. host.rs notes them; here the runs are drawn.
 use crate::{
+    ack::MISSING,
     calls::{Buffer, Call},
-    common::{Answer, Case, Random, Verdict},
-    host::{Host, CHUNK, MISSING, OUTPUT},
+    common::{Answer, Case, Random, Verdict, LAST},
+    host::{Host, CHUNK, OUTPUT},
     runtime::Bench,
     step::Step,
     timer::{FIRST, HIGH, LOW, ROUNDED},
@@ -19,8 +20,6 @@ use std::{
 const SLOTS: &str = "fewer free slots than packets";
 const NUMBERS: &str = "numbers used up";
 const NACKS: &str = "more than 255 NACKs";
-/// The last number that a packet may have.
-const LAST: u32 = 4_294_967_294;
 /// Clocks and timers stay below 2^32.
 const LATEST: u64 = (1 << 32) - 100_000;
 

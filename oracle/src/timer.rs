@@ -1,10 +1,8 @@
 //! `Rtt::calculate_rtt`, `Rto::calculate_rto`, and the window in `handle_acks` and `resend`, in whole milliseconds below 2^32.
-//!
-//! Script: 'x', 0 before the first sample or 1 (8 bits), RTT, deviation, sample (32 each), answered `sample RTT DEVIATION RTO`;
-//! 'g' window (32), answered `window N` after an ack; 'f' window, the same after a resend.
 use crate::{
     active::{sample, Rig, Timing},
-    common::{self, Answer, Random, Script, Verdict},
+    calls::Call,
+    common::{self, Answer, Random, Verdict},
     runtime::Bench,
 };
 
@@ -13,74 +11,79 @@ pub const HIGH: &str = "RTO held to 60,000";
 pub const FIRST: &str = "first RTO";
 pub const ROUNDED: &str = "deviation rounded before it is multiplied";
 
-#[derive(Clone, Copy)]
-pub enum Case {
-    Sample { before: Option<(u32, u32)>, sample: u32 },
-    Grown(u32),
-    Fallen(u32),
-}
+/// RTT and deviation before a sample; none before the first.
+type Before = Option<(u32, u32)>;
+
+pub struct Case(Call);
 
 impl common::Case for Case {
     const LISTED: &'static [&'static str] = &[LOW, HIGH, FIRST, ROUNDED];
 
     fn make(seed: u64, index: usize) -> Self {
         // Every window first.
-        match index {
-            0..=127 => Self::Grown(index as u32 + 1),
-            128..=255 => Self::Fallen(index as u32 - 127),
-            256..=259 => SMALLEST[index - 256],
-            _ => any(&mut Random::of(seed, index)),
-        }
+        Self(match index {
+            0..=127 => Call::Grown(index as u32 + 1),
+            128..=255 => Call::Fallen(index as u32 - 127),
+            _ => {
+                let smallest = SMALLEST.get(index - 256).copied();
+                let (before, sample) = smallest.unwrap_or_else(|| any(&mut Random::of(seed, index)));
+                Call::Sample { before, sample }
+            }
+        })
     }
 
     fn script(&self) -> Vec<u8> {
-        let script = Script::default();
-        match *self {
-            Self::Sample { before, sample } => {
-                let (rtt, deviation) = before.unwrap_or((0, 0));
-                script.u8(b'x').u8(before.is_some().into()).u32(rtt).u32(deviation).u32(sample)
-            }
-            Self::Grown(window) => script.u8(b'g').u32(window),
-            Self::Fallen(window) => script.u8(b'f').u32(window),
-        }
-        .0
+        self.0.script()
     }
 
     fn compare(&self, ours: &[Answer]) -> Vec<Verdict> {
-        let (expected, listed) = match *self {
-            Self::Sample { before, sample } => sampled(before, sample),
-            Self::Grown(window) => (Answer::new("window", &[grown(window)]), None),
-            Self::Fallen(window) => (Answer::new("window", &[fallen(window)]), None),
+        let (expected, listed) = match self.0 {
+            Call::Sample { before, sample } => sampled(before, sample),
+            Call::Grown(window) => (Answer::new("window", &[grown(window)]), None),
+            Call::Fallen(window) => (Answer::new("window", &[fallen(window)]), None),
+            _ => unreachable!("no call of a timer"),
         };
         vec![Verdict::of(&ours[0], &expected, listed)]
     }
 }
 
 /// The smallest input of each listed difference, in the order of `LISTED`: a first sample where one can show it.
-const SMALLEST: [Case; 4] = [
-    Case::Sample { before: None, sample: 0 },
-    Case::Sample { before: None, sample: 30_001 },
-    Case::Sample { before: None, sample: 334 },
-    Case::Sample { before: Some((0, 334)), sample: 0 },
-];
+const SMALLEST: [(Before, u32); 4] = [(None, 0), (None, 30_001), (None, 334), (Some((0, 334)), 0)];
 
-/// Times of every size, samples near the RTT among them.
-fn any(random: &mut Random) -> Case {
-    let time = |random: &mut Random| match random.below(8) {
-        0 => random.word(),
-        1..=3 => random.word() >> random.below(32),
-        _ => random.below(20_000) as u32,
-    };
+/// Half are drawn until the RTO lies strictly between its bounds, where its formula is compared; the others are of every size.
+fn any(random: &mut Random) -> (Before, u32) {
+    if random.one_in(2) {
+        return drawn(random, any_size);
+    }
+    loop {
+        let (before, taken) = drawn(random, |random| random.below(60_000) as u32 >> random.below(8));
+        let (rto, _) = rto(&sample(before, taken), before.is_none());
+        if 1_000 < rto && rto < 60_000 {
+            return (before, taken);
+        }
+    }
+}
+
+/// Samples near the RTT are among them.
+fn drawn(random: &mut Random, time: impl Fn(&mut Random) -> u32) -> (Before, u32) {
     let (rtt, deviation) = (time(random), time(random));
     let sample = match random.below(4) {
         0 => rtt.saturating_add(random.below(20) as u32).saturating_sub(10),
         _ => time(random),
     };
-    Case::Sample { before: (!random.one_in(8)).then_some((rtt, deviation)), sample }
+    ((!random.one_in(8)).then_some((rtt, deviation)), sample)
+}
+
+fn any_size(random: &mut Random) -> u32 {
+    match random.below(8) {
+        0 => random.word(),
+        1..=3 => random.word() >> random.below(32),
+        _ => random.below(20_000) as u32,
+    }
 }
 
 /// RTT and deviation are the Rust's. The RTO is document 01's over them.
-fn sampled(before: Option<(u32, u32)>, taken: u32) -> (Answer, Option<&'static str>) {
+fn sampled(before: Before, taken: u32) -> (Answer, Option<&'static str>) {
     let rust = sample(before, taken);
     let (ours, listed) = rto(&rust, before.is_none());
     (Answer::new("sample", &[rust.rtt, rust.deviation, ours]), listed)

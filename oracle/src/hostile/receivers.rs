@@ -5,7 +5,7 @@ use crate::{
     common::Random,
     model::{
         receiver::{Receiver, RULES, UNUSABLE},
-        LAST,
+        TOP,
     },
 };
 
@@ -18,13 +18,13 @@ pub fn valid(random: &mut Random) -> Receiver {
     };
     let next = match random.below(8) {
         0 => 1,
-        1 => LAST - random.below(3) as u32,
-        2 => LAST - random.below(600) as u32,
+        1 => TOP - random.below(3) as u32,
+        2 => TOP - random.below(600) as u32,
         3 => random.from_to(1, 600) as u32,
         _ => random.word().max(1),
     };
     // As many numbers as may be from next to highest.
-    let room = (LAST - next).min(512) as usize;
+    let room = (TOP - next).min(512) as usize;
     let span = match random.below(32) {
         0 => room,
         1 => random.below(room + 1),
@@ -73,12 +73,12 @@ fn break_rule(receiver: &mut Receiver, random: &mut Random, rule: &str) {
         }
         Some(2) => {
             let above = [512, 513, 1024, 512 + random.word() / 2][random.below(4)];
-            receiver.highest = receiver.next.saturating_add(above).min(LAST - 1);
+            receiver.highest = receiver.next.saturating_add(above).min(TOP - 1);
         }
         Some(3) => receiver.marks[last_mark(receiver)] = 0,
         Some(4) => {
-            receiver.next = LAST - random.below(512) as u32;
-            receiver.highest = LAST;
+            receiver.next = TOP - random.below(512) as u32;
+            receiver.highest = TOP;
             receiver.marks = [0; 512];
             receiver.marks[last_mark(receiver)] = 1;
         }
@@ -106,7 +106,7 @@ fn noise(random: &mut Random) -> Receiver {
 /// A slot size out of range, with every rule of 11 kept.
 fn size_wrong(random: &mut Random) -> Receiver {
     let mut receiver = valid(random);
-    receiver.slot = [0, 0, 1_813, 65_535, LAST][random.below(5)];
+    receiver.slot = [0, 0, 1_813, 65_535, TOP][random.below(5)];
     for mark in &mut receiver.marks {
         *mark = (*mark).min(1 + receiver.slot.min(1_812) as u16);
     }
@@ -149,7 +149,7 @@ impl Draft {
     fn start_receiver(&mut self) {
         let random = &mut self.random;
         let s = match random.below(6) {
-            0 => LAST - random.below(2) as u32,
+            0 => TOP - random.below(2) as u32,
             1 => 0,
             _ => random.word(),
         };
@@ -172,7 +172,7 @@ impl Draft {
             0 => around(random, receiver.next),
             1 => around(random, receiver.next.wrapping_add(511)),
             2 => random.word(),
-            3 => LAST - random.below(2) as u32,
+            3 => TOP - random.below(2) as u32,
             4 | 5 => receiver.next.wrapping_add(random.below(8) as u32),
             _ => around(random, receiver.highest),
         };

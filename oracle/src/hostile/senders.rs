@@ -6,7 +6,7 @@ use crate::{
     model::{
         sender::{Place, Sender, FREE, IN_FLIGHT, LATEST, RULES, UNUSABLE, WAITING},
         timer::rto,
-        LAST,
+        TOP,
     },
 };
 
@@ -63,8 +63,8 @@ fn store(sender: &mut Sender, random: &mut Random, in_flight: usize, waiting: us
     let least = stored as u32 + 1;
     sender.next = match random.below(5) {
         0 => least,
-        1 => LAST - random.below(300) as u32,
-        2 => LAST - random.below(4) as u32,
+        1 => TOP - random.below(300) as u32,
+        2 => TOP - random.below(4) as u32,
         _ => random.word().max(least),
     };
     // Numbers downward from below next, with gaps where there is room.
@@ -162,14 +162,14 @@ fn sizes_wrong(random: &mut Random) -> Sender {
     let mut sender = valid(random);
     match random.one_in(2) {
         true => {
-            sender.chunk = [0, 1_813, LAST, random.word()][random.below(4)];
+            sender.chunk = [0, 1_813, TOP, random.word()][random.below(4)];
             let (in_flight, waiting) = (sender.marked(IN_FLIGHT).len(), sender.marked(WAITING).len());
             sender.places = UNUSABLE.places;
             store(&mut sender, random, in_flight, waiting);
         }
         // No place may be in use where there is none.
         false => {
-            sender.count = [0, 193, LAST, random.word().max(193)][random.below(4)];
+            sender.count = [0, 193, TOP, random.word().max(193)][random.below(4)];
             if sender.count == 0 {
                 sender.places = UNUSABLE.places;
             }

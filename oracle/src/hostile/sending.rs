@@ -6,7 +6,7 @@ use crate::{
     model::{
         sender::{FREE, IN_FLIGHT, LATEST, WAITING},
         timer::rto,
-        LAST,
+        TOP,
     },
 };
 
@@ -50,7 +50,7 @@ impl Draft {
         let random = &mut self.random;
         let first = match random.below(6) {
             0 => 0,
-            1 => LAST - random.below(3) as u32,
+            1 => TOP - random.below(3) as u32,
             _ => random.word().max(1),
         };
         let chunk = match random.below(40) {

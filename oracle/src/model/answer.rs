@@ -88,6 +88,14 @@ impl World {
             Call::Accept { .. } | Call::Take(_) => seen::wrong("receiver", &receiver(receiver_store)),
             Call::Acknowledge { .. } => seen::wrong("receiver", &receiver(None)),
             Call::Fetch { .. } => seen::wrong("sender", &sender(sender_store)),
+            Call::Submit { .. } => {
+                let (sender, receiver) = (sender(sender_store), receiver(None));
+                let which = |names: [&'static str; 2], kind: usize| {
+                    let wrong = [&sender[kind], &receiver[kind]].map(|found| !found.is_empty());
+                    names.into_iter().zip(wrong).filter(|(_, wrong)| *wrong).map(|(name, _)| name).collect()
+                };
+                seen::wrong("submit", &[which(sending::STATES, 0), which(sending::SIZES, 1)]);
+            }
             Call::Send { clock, .. } => {
                 let [broken, sizes] = sender(sender_store);
                 seen::wrong("sender", &[broken, sizes, self.sender.clock_wrong(*clock)]);

@@ -31,7 +31,7 @@ pub mod write;
 pub type Refusal = u64;
 
 /// The largest number of 32 bits, which no packet may have.
-pub const LAST: u32 = 4_294_967_295;
+pub const TOP: u32 = 4_294_967_295;
 
 /// The first refusal that applies, of those that a call lists in document 01's order.
 pub fn refuse(call: &'static str, ladder: &[(Refusal, bool)]) -> Result<(), Refusal> {

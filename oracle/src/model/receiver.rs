@@ -1,5 +1,5 @@
 //! Document 01, "Receiver".
-use super::{refuse, Refusal, LAST};
+use super::{refuse, Refusal, TOP};
 
 #[derive(Clone)]
 pub struct Receiver {
@@ -82,7 +82,7 @@ impl Receiver {
 
 pub fn start(s: u32, slot: u32, store: &[u8]) -> Result<Receiver, Refusal> {
     let fresh = Receiver { slot, next: s.wrapping_add(1), highest: s, marks: [0; 512] };
-    refuse("start", &[(10, !fresh.wrong(Some(store)).is_empty()), (12, s == LAST)])?;
+    refuse("start", &[(10, !fresh.wrong(Some(store)).is_empty()), (12, s == TOP)])?;
     Ok(fresh)
 }
 
@@ -93,7 +93,7 @@ pub fn accept(receiver: &mut Receiver, number: u32, payload: &[u8], store: &mut 
         &[
             (11, !receiver.broken().is_empty()),
             (10, !receiver.wrong(Some(store)).is_empty()),
-            (12, number == LAST),
+            (12, number == TOP),
             (13, ahead < 0),
             (14, ahead >= 512),
             (15, receiver.held(number).is_some()),

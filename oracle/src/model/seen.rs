@@ -1,5 +1,5 @@
 //! What a run met: how often each call gave each answer, which refusals applied together, and which rules were broken alone.
-use super::{receiver, sender, shapes::SHAPES};
+use super::{receiver, sender, sending, shapes::SHAPES};
 use std::{cell::RefCell, collections::BTreeMap};
 
 /// Every number that a call can give, in document 01's order. Of `destination` and `valid` these are the answers.
@@ -33,6 +33,17 @@ const APART: [(&str, u64, u64); 11] = [
     ("ack", 11, 7),
     ("send", 17, 7),
     ("fetch", 17, 7),
+];
+
+/// What can be wrong, and the refusal that it gives: with a receiver, a sender or its clock, and which state of a submit.
+const WRONG: [(&str, u64, &[&str]); 7] = [
+    ("receiver", 11, &receiver::RULES),
+    ("receiver", 10, &receiver::SIZES),
+    ("sender", 11, &sender::RULES),
+    ("sender", 10, &sender::SIZES),
+    ("sender", 24, &sender::CLOCKS),
+    ("submit", 11, &sending::STATES),
+    ("submit", 10, &sending::SIZES),
 ];
 
 /// Every earlier and later refusal of a call that can apply together. Reading goes step by step and is left out.
@@ -78,8 +89,8 @@ pub fn together(call: &'static str, applying: &[u64]) {
     });
 }
 
-/// What a call finds wrong with a state, in document 01's order: its rules, its sizes, the clock. Only what is wrong alone shows
-/// that it is tested.
+/// What a call finds wrong with a state, in document 01's order: its rules, its sizes, the clock; a submit, which of its states.
+/// Only what is wrong alone shows that it is tested.
 pub fn wrong(state: &'static str, found: &[Vec<&'static str>]) {
     if let Some([rule]) = found.iter().map(Vec::as_slice).find(|wrong| !wrong.is_empty()) {
         SEEN.with_borrow_mut(|seen| *seen.wrong.entry((state, *rule)).or_default() += 1);
@@ -111,14 +122,8 @@ pub fn table() -> bool {
         for name in SHAPES {
             println!("  {name}: {}", counted(seen.shapes.get(name)));
         }
-        println!("how often a call met a state with this rule, size or clock wrong, and no other of its kind");
-        for (state, refusal, rules) in [
-            ("receiver", 11, &receiver::RULES[..]),
-            ("receiver", 10, &receiver::SIZES),
-            ("sender", 11, &sender::RULES),
-            ("sender", 10, &sender::SIZES),
-            ("sender", 24, &sender::CLOCKS),
-        ] {
+        println!("how often a call met this rule, size, clock or state wrong, and no other of its kind");
+        for (state, refusal, rules) in WRONG {
             for rule in rules {
                 println!("  {state} {refusal}: {rule}: {}", counted(seen.wrong.get(&(state, *rule))));
             }

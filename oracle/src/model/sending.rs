@@ -6,8 +6,12 @@ use super::{
     sender::{Place, Sender, FREE, IN_FLIGHT, WAITING},
     timer::{fallen, grown, rto, sampled},
     write::Fields,
-    Refusal, LAST,
+    Refusal, TOP,
 };
+
+/// What 11 and 10 of a submit are about: it tests both states.
+pub const STATES: [&str; 2] = ["the sender's state", "the receiver's state"];
+pub const SIZES: [&str; 2] = ["the sender's sizes", "the receiver's slot size"];
 
 /// How many packets were made.
 pub fn submit(
@@ -27,7 +31,7 @@ pub fn submit(
             (10, !sender.wrong(Some(store)).is_empty() || !receiver.wrong(None).is_empty()),
             (21, !sender.marked(WAITING).is_empty()),
             (19, bytes.is_empty() || bytes.len() > 65_535),
-            (20, behind_last > LAST.into()),
+            (20, behind_last > TOP.into()),
             (18, free.len() < count),
         ],
     )?;

@@ -1,7 +1,7 @@
 //! Stand-in for `crate::destination`: a route that is there or not, as it was told.
 use super::{primitives::DestinationId, runtime::Runtime};
 
-/// Where a packet goes to is not looked at, only which of the two it is.
+/// The given text fills in where a packet goes to. That is not looked at, only which of the two it is.
 #[allow(dead_code)]
 pub enum DeliveryStyle {
     Unspecified { destination_id: DestinationId },

@@ -1,17 +1,16 @@
-//! Stand-in for `crate::error`. The variants that the given text names are its own; the others carry where a parser
+//! Stand-in for `crate::error`. The variants that the given text names are its own; the others of `parser` carry where it
 //! stopped, so that a refusal of the Rust can be held against a number of document 01.
 
 #[derive(Debug)]
 pub enum StreamingError {
     Closed,
     SequenceNumberTooHigh,
-    #[allow(dead_code)] // for a reader of the log
-    Malformed(parser::PacketParseError),
+    Malformed,
 }
 
 impl From<parser::PacketParseError> for StreamingError {
-    fn from(error: parser::PacketParseError) -> Self {
-        Self::Malformed(error)
+    fn from(_: parser::PacketParseError) -> Self {
+        Self::Malformed
     }
 }
 

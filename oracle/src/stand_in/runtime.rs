@@ -1,5 +1,5 @@
-//! Stand-in for `crate::runtime`: a clock that is set, timers that look at it, and a client's socket whose two directions
-//! are plain queues. One clock a thread.
+//! Stand-in for `crate::runtime`: a clock that is set, timers that look at it, and a client's socket that is
+//! a plain queue. One clock a thread.
 use super::rand::Rng;
 use std::{
     cell::Cell,
@@ -87,11 +87,10 @@ impl Future for Alarm {
     }
 }
 
-/// The client's side of the socket: what it wrote and is not read yet, and what was delivered to it.
+/// The client's side of the socket: what it wrote and is not read yet. What is delivered to it is not looked at.
 #[derive(Default)]
 pub struct Client {
     pub written: VecDeque<Vec<u8>>,
-    pub delivered: Vec<Vec<u8>>,
 }
 
 impl AsyncRead for Client {
@@ -104,8 +103,7 @@ impl AsyncRead for Client {
 }
 
 impl AsyncWrite for Client {
-    fn poll_write(mut self: Pin<&mut Self>, _: &mut Context<'_>, bytes: &[u8]) -> Poll<Result<usize, ()>> {
-        self.delivered.push(bytes.to_vec());
+    fn poll_write(self: Pin<&mut Self>, _: &mut Context<'_>, bytes: &[u8]) -> Poll<Result<usize, ()>> {
         Poll::Ready(Ok(bytes.len()))
     }
 }
