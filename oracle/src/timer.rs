@@ -3,6 +3,7 @@ use crate::{
     active::{sample, Rig, Timing},
     calls::Call,
     common::{self, Answer, Random, Verdict},
+    model::timer as model,
     runtime::Bench,
 };
 
@@ -50,19 +51,36 @@ impl common::Case for Case {
 /// The smallest input of each listed difference, in the order of `LISTED`: a first sample where one can show it.
 const SMALLEST: [(Before, u32); 4] = [(None, 0), (None, 30_001), (None, 334), (Some((0, 334)), 0)];
 
-/// Times of every size, samples near the RTT among them.
+/// Half are drawn until the RTO lies strictly between its bounds, where its formula is compared; the others are of every size.
 fn any(random: &mut Random) -> (Before, u32) {
-    let time = |random: &mut Random| match random.below(8) {
-        0 => random.word(),
-        1..=3 => random.word() >> random.below(32),
-        _ => random.below(20_000) as u32,
-    };
+    if random.one_in(2) {
+        return drawn(random, any_size);
+    }
+    loop {
+        let (before, taken) = drawn(random, |random| random.below(60_000) as u32 >> random.below(8));
+        let rto = model::rto(model::sampled(before, taken));
+        if 1_000 < rto && rto < 60_000 {
+            return (before, taken);
+        }
+    }
+}
+
+/// Samples near the RTT are among them.
+fn drawn(random: &mut Random, time: impl Fn(&mut Random) -> u32) -> (Before, u32) {
     let (rtt, deviation) = (time(random), time(random));
     let sample = match random.below(4) {
         0 => rtt.saturating_add(random.below(20) as u32).saturating_sub(10),
         _ => time(random),
     };
     ((!random.one_in(8)).then_some((rtt, deviation)), sample)
+}
+
+fn any_size(random: &mut Random) -> u32 {
+    match random.below(8) {
+        0 => random.word(),
+        1..=3 => random.word() >> random.below(32),
+        _ => random.below(20_000) as u32,
+    }
 }
 
 /// RTT and deviation are the Rust's. The RTO is document 01's over them.
