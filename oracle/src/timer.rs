@@ -3,6 +3,7 @@ use crate::{
     active::{sample, Rig, Timing},
     calls::Call,
     common::{self, Answer, Random, Verdict},
+    model::timer as model,
     runtime::Bench,
 };
 
@@ -57,7 +58,7 @@ fn any(random: &mut Random) -> (Before, u32) {
     }
     loop {
         let (before, taken) = drawn(random, |random| random.below(60_000) as u32 >> random.below(8));
-        let (rto, _) = rto(&sample(before, taken), before.is_none());
+        let rto = model::rto(model::sampled(before, taken));
         if 1_000 < rto && rto < 60_000 {
             return (before, taken);
         }
