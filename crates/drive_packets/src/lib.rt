@@ -38,49 +38,33 @@ fn numbers(bank: &mut Bank, p: Packet) {
 }
 
 // Where each part stands.
-fn options(bank: &mut Bank, p: Packet) {
+fn places(bank: &mut Bank, p: Packet) {
+    bank[ANSWERS + 9] = p.nacks.at as u64;
+    bank[ANSWERS + 10] = p.nacks.len as u64;
     bank[ANSWERS + 11] = p.destination.at as u64;
     bank[ANSWERS + 12] = p.destination.len as u64;
     bank[ANSWERS + 13] = p.signature.at as u64;
     bank[ANSWERS + 14] = p.signature.len as u64;
-    bank[ANSWERS + 17] = p.leftover as u64;
-}
-
-fn places(bank: &mut Bank, p: Packet) {
-    bank[ANSWERS + 9] = p.nacks.at as u64;
-    bank[ANSWERS + 10] = p.nacks.len as u64;
     bank[ANSWERS + 15] = p.payload.at as u64;
     bank[ANSWERS + 16] = p.payload.len as u64;
-    options(bank, p);
-}
-
-fn all(bank: &mut Bank, p: Packet) {
-    ids(bank, p);
-    numbers(bank, p);
-    places(bank, p);
+    bank[ANSWERS + 17] = p.leftover as u64;
 }
 
 // A checksum of each part, as the calls for the parts return it.
 fn parts(bank: &mut Bank, packet: &[u8]) {
-    let nacks = sum::checksum(packet::nacks(packet));
-    let destination = sum::checksum(packet::destination(packet));
-    let signature = sum::checksum(packet::signature(packet));
-    let payload = sum::checksum(packet::payload(packet));
-    sums(bank, nacks, destination, signature, payload);
-}
-
-fn sums(bank: &mut Bank, nacks: u64, destination: u64, signature: u64, payload: u64) {
-    bank[ANSWERS + 18] = nacks;
-    bank[ANSWERS + 19] = destination;
-    bank[ANSWERS + 20] = signature;
-    bank[ANSWERS + 21] = payload;
+    bank[ANSWERS + 18] = sum::checksum(packet::nacks(packet));
+    bank[ANSWERS + 19] = sum::checksum(packet::destination(packet));
+    bank[ANSWERS + 20] = sum::checksum(packet::signature(packet));
+    bank[ANSWERS + 21] = sum::checksum(packet::payload(packet));
 }
 
 fn read(bank: &mut Bank, packet: &[u8]) {
     match packet::read(packet) {
         Reading::Refused(r) => registers::answer(bank, r.number() as u64),
         Reading::Read(p) => {
-            all(bank, p);
+            ids(bank, p);
+            numbers(bank, p);
+            places(bank, p);
             parts(bank, packet);
         }
     }
@@ -151,18 +135,11 @@ fn write_to(bank: &mut Bank, given: &[u8], out: &mut [u8]) {
     write(bank, given, &mut out[..room]);
 }
 
-// The calls on the bytes of the script.
-fn judge(bank: &mut Bank, given: &[u8], letter: u8) {
+pub fn call(bank: &mut Bank, given: &Bytes, out: &mut Output, letter: u8) {
     let n = registers::length(bank, 0);
     match letter {
         b'r' => read(bank, part::front(given, n)),
-        _ => destination(bank, part::front(given, n)),
-    }
-}
-
-pub fn call(bank: &mut Bank, given: &Bytes, out: &mut Output, letter: u8) {
-    match letter {
-        b'w' => write_to(bank, given, out),
-        _ => judge(bank, given, letter),
+        b'd' => destination(bank, part::front(given, n)),
+        _ => write_to(bank, given, out),
     }
 }
