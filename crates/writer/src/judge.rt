@@ -7,7 +7,6 @@ ghost use mathlib.Core.Path.{_≡_};
 ghost use mathlib.Core.Bool.{true, false, _&&_, not};
 ghost use Prim.Native.Nat.{_+_, _≤_, _<_};
 ghost use lib.Dec.{eqb};
-ghost use lib.ListN.{length};
 ghost use Rattle.terms.specs.Ladder.{_when_else_};
 ghost use Rattle.packet.specs.Flags.{bit};
 ghost use Rattle.packet.specs.Destination.{isDestination};
