@@ -153,6 +153,7 @@ fn stamped(s: Sender, end: u32, clock: u64) -> Sender
     let mut sent = s.sent;
     stamp_all(&mut sent, &s.numbers, &s.marks, end, clock);
     let fallen = timer::window_fallen(s.window);
+    let due = clock + 9000;
     let next = s.next;
     let numbers = s.numbers;
     let lengths = s.lengths;
@@ -163,7 +164,7 @@ fn stamped(s: Sender, end: u32, clock: u64) -> Sender
         next: next,
         window: fallen,
         timing: Timing::Unsampled,
-        timer: Timer::At(clock + 9000),
+        timer: Timer::At(due),
         clock: clock,
         numbers: numbers,
         lengths: lengths,
@@ -192,7 +193,8 @@ pub(super) fn resend_done(s: Sender, clock: u64, path: bool) -> Resent
     let count = found.count;
     let end = found.end;
     if (count == 0) | !path {
-        let later = still(s, Timer::At(clock + rto), clock);
+        let due = clock + rto;
+        let later = still(s, Timer::At(due), clock);
         return Resent {
             answer: Tally::Count(0),
             state: later,

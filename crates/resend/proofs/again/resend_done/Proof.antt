@@ -65,8 +65,8 @@ find-expired-requires c κs =
     let a = c .before .before .before .before .before .before .before .before .before .before .before .before .before .before .before in
     (neat a, times a, λ i h. omega (arith, ruled (a .args .t1) (a .pre .0) .past i (omega (arith, table a)), a .pre .1))
 
-add-t33 : tie.Need-add-t33
-add-t33 c =
+add-due : tie.Need-add-due
+add-due c =
     let f = c .before in
     let a = f .before .before .before .before .before .before .before .before .before .before .before .before .before .before .before .before in
     omega (arith, f .before .before .before .before .before .before .before .before .before .before .before .before .before .before .before .rto .ensures, rto-most (a .args .t1 .timing), a .pre .2)
@@ -105,7 +105,7 @@ resend-done-spec =
     still-requires
     returns
     find-expired-requires
-    add-t33
+    add-due
     still-requires-2
     returns-2
     stamped-requires

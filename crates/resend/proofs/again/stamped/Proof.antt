@@ -12,8 +12,8 @@ stamp-all-requires c κs = search needs
 window-fallen-requires : tie.Need-window-fallen-requires
 window-fallen-requires c κs = search needs
 
-add-t21 : tie.Need-add-t21
-add-t21 c = search needs
+add-due : tie.Need-add-due
+add-due c = search needs
 
 returns : tie.Need-returns
 returns c =
@@ -35,4 +35,4 @@ returns c =
 pub stamped-spec : {M : Type 1} → statement M
 stamped-spec =
     tie.close
-    (tie.spec stamp-all-requires window-fallen-requires add-t21 returns)
+    (tie.spec stamp-all-requires window-fallen-requires add-due returns)
