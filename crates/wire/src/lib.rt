@@ -63,7 +63,7 @@ pub fn put16(rest: &mut [u8], x: u16)
 }
 
 // Writes x as four bytes.
-pub fn put32(rest: &mut [u8], x: u32)
+fn put32(rest: &mut [u8], x: u32)
     requires { ⌜ 4 ≤ length (now rest) ⌝ }
     ensures { λ _. ⌜ now (rest .exit) ≡ bytesOf 4 x atFrontOf now (rest .entry) ⌝ }
 {
