@@ -1,7 +1,7 @@
 -- The measure is how many turns are left.
 use borrow.Author.Needs.{needs}
-use Rattle.drive.proofs.steps.Statement.{statement}
-use Rattle.drive.proofs.steps.Tie as tie
+use Rattle.drive_calls.proofs.steps.Statement.{statement}
+use Rattle.drive_calls.proofs.steps.Tie as tie
 
 abbrev Inv-loop : tie.InvT-loop
 Inv-loop bank₀ given₀ out₀ received₀ sent₀ turns₀ bank given out received sent turns = Unit {0}

@@ -1,0 +1,90 @@
+// Reads a script of calls from standard input and answers each with a line: docs/DRIVE.md has the format, and the crate `drive_format` is that format.
+// A call is taken into the registers, made by the crate of its topic, and told from the registers. Two programs are this: `drive`, which is run on a
+// stored script, and `compared`, on all that `make test` compares.
+mod timing;
+
+use drive_format::take;
+use drive_format::tell;
+use lines::say;
+use script::input;
+use script::registers::Bank;
+use script::registers::Bytes;
+use script::registers::Output;
+use script::registers::Store;
+
+// The topic of a letter: packets, timing, a receiver, or a sender.
+fn topic(letter: u8) -> u8 {
+    match letter {
+        b'r' | b'd' | b'w' => 0,
+        b'x' | b'g' | b'f' => 1,
+        b'S' | b'R' | b'B' | b'a' | b't' | b'k' => 2,
+        _ => 3,
+    }
+}
+
+// Makes the call of a letter.
+fn call(
+    bank: &mut Bank,
+    given: &mut Bytes,
+    out: &mut Output,
+    received: &mut Store,
+    sent: &mut Store,
+    letter: u8,
+) {
+    match topic(letter) {
+        0 => drive_packets::call(bank, given, out, letter),
+        1 => timing::call(bank, letter),
+        2 => drive_receiver::call(bank, given, out, received, letter),
+        _ => drive_sender::call(bank, given, out, sent, letter),
+    }
+}
+
+// One call, or the word that the script is bad; whether to go on.
+fn step(
+    bank: &mut Bank,
+    given: &mut Bytes,
+    out: &mut Output,
+    received: &mut Store,
+    sent: &mut Store,
+    letter: u8,
+) -> bool {
+    take::call(bank, given, out, received, sent, letter);
+    if !input::good(bank) {
+        say::text(b"bad script\n");
+        return false;
+    }
+    call(bank, given, out, received, sent, letter);
+    tell::call(bank, letter);
+    true
+}
+
+// Nothing says that a script ends, so the turns are counted down, from a number that no run uses up.
+fn steps(
+    bank: &mut Bank,
+    given: &mut Bytes,
+    out: &mut Output,
+    received: &mut Store,
+    sent: &mut Store,
+) {
+    let mut turns = u64::MAX;
+    while turns > 0 {
+        let letter = input::letter();
+        if letter > 255 {
+            return;
+        }
+        if !step(bank, given, out, received, sent, (letter % 256) as u8) {
+            return;
+        }
+        turns -= 1;
+    }
+}
+
+// Answers the whole script.
+pub fn run() {
+    let mut bank = [0u64; 1792];
+    let mut given = [0u8; 210000];
+    let mut out = [0u8; 70000];
+    let mut received = [0u8; 930000];
+    let mut sent = [0u8; 930000];
+    steps(&mut bank, &mut given, &mut out, &mut received, &mut sent);
+}
