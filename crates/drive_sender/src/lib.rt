@@ -1,7 +1,5 @@
 // What `drive` calls on a sender: 'Z' starts it, 'P' and 'D' set its state and its store, 'v' judges the state, 'u' submits, 's' sends, 'c' takes
 // acks, 'e' resends, 'h' fetches. The state and what a call asks stand in the registers, and its answer goes there.
-mod state;
-
 use lines::part;
 use places::Tally;
 use script::registers;
@@ -26,7 +24,7 @@ fn start(bank: &mut Bank, store: &[u8]) {
     let done = places::start(first, chunk, count, store);
     let after = done.state;
     let said = done.answer;
-    state::keep(bank, after);
+    drive_state::keep(bank, after);
     drive_receiver::answer(bank, said);
 }
 
@@ -34,13 +32,13 @@ fn start(bank: &mut Bank, store: &[u8]) {
 // of an unarmed timer become 0.
 fn set(bank: &mut Bank) {
     registers::copy(bank, 0, SENDER, 10);
-    let s = state::given(bank);
-    state::keep(bank, s);
+    let s = drive_state::given(bank);
+    drive_state::keep(bank, s);
     bank[COUNT] = 0;
 }
 
 fn valid(bank: &mut Bank) {
-    let s = state::given(bank);
+    let s = drive_state::given(bank);
     if rules::valid(s) {
         registers::answer(bank, 1);
     } else {
@@ -59,7 +57,7 @@ fn tally(bank: &mut Bank, answer: Tally) {
 fn submitted(bank: &Bank, bytes: &[u8], store: &mut [u8]) -> Submitted {
     let send = StreamId(registers::word32(bank, 0));
     let recv = StreamId(registers::word32(bank, 1));
-    let s = state::given(bank);
+    let s = drive_state::given(bank);
     let r = drive_receiver::state(bank);
     submit::submit(s, r, send, recv, bytes, store)
 }
@@ -68,7 +66,7 @@ fn submit(bank: &mut Bank, bytes: &[u8], store: &mut [u8]) {
     let done = submitted(bank, bytes, store);
     let after = done.state;
     let said = done.answer;
-    state::keep(bank, after);
+    drive_state::keep(bank, after);
     tally(bank, said);
     bank[SUM] = sum::checksum(store);
 }
@@ -84,11 +82,11 @@ fn departure(bank: &mut Bank, answer: Departure) {
 
 fn send(bank: &mut Bank, store: &[u8], out: &mut [u8]) {
     let clock = registers::value(bank, 0);
-    let s = state::given(bank);
+    let s = drive_state::given(bank);
     let done = sender::send(s, clock, store, out);
     let after = done.state;
     let said = done.answer;
-    state::keep(bank, after);
+    drive_state::keep(bank, after);
     departure(bank, said);
     bank[SUM] = sum::checksum(out);
 }
@@ -98,28 +96,28 @@ fn acks(bank: &mut Bank) {
     let n = registers::length(bank, 1);
     let clock = registers::value(bank, 2);
     let nacks = registers::nacks(bank);
-    let s = state::given(bank);
+    let s = drive_state::given(bank);
     let done = acks::acks(s, through, part::front32(&nacks, n), clock);
     let after = done.state;
     let said = done.answer;
-    state::keep(bank, after);
+    drive_state::keep(bank, after);
     tally(bank, said);
 }
 
 fn resend(bank: &mut Bank) {
     let clock = registers::value(bank, 0);
     let path = registers::value(bank, 1) != 0;
-    let s = state::given(bank);
+    let s = drive_state::given(bank);
     let done = resend::resend(s, clock, path);
     let after = done.state;
     let said = done.answer;
-    state::keep(bank, after);
+    drive_state::keep(bank, after);
     tally(bank, said);
 }
 
 fn fetch(bank: &mut Bank, store: &[u8], out: &mut [u8]) {
     let rank = registers::word32(bank, 0);
-    let s = state::given(bank);
+    let s = drive_state::given(bank);
     let said = sender::fetch(s, rank, store, out);
     drive_receiver::given(bank, said);
     bank[SUM] = sum::checksum(out);

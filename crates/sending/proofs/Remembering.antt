@@ -16,7 +16,7 @@ use Rattle.sender.specs.Send.{sendOf}
 use Rattle.acks.specs.Acks.{acksOf}
 use Rattle.resend.specs.Resend.{resendOf}
 use Rattle.submit.specs.Submit.{submitOf}
-use Rattle.submit.specs.Chunks.{chunksOf}
+use Rattle.submit_answer.specs.Answer.{chunksOf}
 use Rattle.sending.specs.Meaning.{gone, standing, doesWait, doesFly, Sound}
 use Rattle.sending.specs.Steps.{goesAgain}
 use Rattle.sending.specs.Runs.{Call, submit, send, acks, resend, fetch, Event, Kept, stepOf, keptAfter, eventsOf, Run, begun, historyOf}

@@ -23,9 +23,11 @@ use Rattle.places.specs.Table.{countOf}
 use Rattle.places.specs.declared.Sender.{Sender}
 use Rattle.places.specs.Numbers.{waiting}
 use Rattle.resend.specs.Resend.{isEmpty}
-use Rattle.submit.specs.Chunks.{chunksOf, dataPacket, storedBy}
-use Rattle.submit.specs.Submit.{freeOf, submitSaid, submitOf}
-use Rattle.submit.proofs.Ways.{chunks-some, Made, made}
+use Rattle.submit_answer.specs.Answer.{chunksOf, freeOf, submitSaid}
+use Rattle.submit_answer.proofs.Lengths.{chunks-some}
+use Rattle.submit.specs.Chunks.{dataPacket, storedBy}
+use Rattle.submit.specs.Submit.{submitOf}
+use Rattle.submit.proofs.Ways.{Made, made}
 use Rattle.sending.specs.Meaning.{standing, Sound}
 use Rattle.sending.specs.Steps.{isFair, chunkAt, chunksFrom, submittedAs, isOutside}
 use Rattle.sending.proofs.Counts.{fair-rung}

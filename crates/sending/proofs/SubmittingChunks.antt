@@ -8,7 +8,7 @@ use native.Mathlib.Omega.{arith}
 use lib.ListN.{length, take, drop, length-take, length-drop}
 use lib.Seq.{take-all, take-add, drop-drop}
 use Rattle.terms.specs.Lists.{joined}
-use Rattle.submit.specs.Chunks.{chunksOf}
+use Rattle.submit_answer.specs.Answer.{chunksOf}
 use Rattle.sending.specs.Steps.{chunkAt, chunksFrom}
 
 -- so many chunks in a row are so many bytes

@@ -11,8 +11,8 @@ use Rattle.places.specs.Table.{_!_}
 use Rattle.places.specs.declared.Sender.{Sender}
 use Rattle.places.proofs.Facts.{Ruled}
 use Rattle.places.proofs.Search.{place-is}
+use Rattle.submit_answer.specs.Answer.{freeOf}
 use Rattle.submit.specs.Chunks.{lowestFree, joinedBy, laidAt}
-use Rattle.submit.specs.Submit.{freeOf}
 use Rattle.submit.proofs.Storing.{free-place}
 use Rattle.sending.specs.Meaning.{Sound}
 use Rattle.sending.proofs.Stands.{facts}

@@ -16,8 +16,8 @@ use Rattle.places.proofs.Facts.{rules-of, sized}
 use Rattle.places.specs.Numbers.{sizeOf, offsetOf, packetOf}
 use Rattle.places.proofs.Runs.{beyond}
 use Rattle.places.proofs.Search.{place-is}
+use Rattle.submit_answer.specs.Answer.{freeOf}
 use Rattle.submit.specs.Chunks.{lowestFree}
-use Rattle.submit.specs.Submit.{freeOf}
 use Rattle.submit.proofs.Storing.{free-fewer}
 use Rattle.sending.specs.Meaning.{waits, gone, markOf, sentOf, standing, Sound}
 use Rattle.sending.proofs.Stands.{facts, nowhere-gone}

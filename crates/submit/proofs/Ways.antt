@@ -1,18 +1,17 @@
 -- The definitions at each way out of the code. Assumes nothing.
-use Prim.Native.Nat.{ℕ, _+_, _-_, _≤_, _<_}
+use Prim.Native.Nat.{ℕ, _+_, _-_, _≤_}
 use mathlib.Core.Path.{_≡_, refl, sym, _∙_, ap}
-use mathlib.Core.Bool.{true, false, _&&_, _||_, not}
+use mathlib.Core.Bool.{true, _&&_, _||_, not}
 use mathlib.Core.List.{List, [], _∷_, _++_}
-use native.Mathlib.Nat.{div-eq-sub-div, div-le-self}
 use native.Mathlib.Omega.{arith}
-use borrow.Author.Tests.{le-ltb, leb-false, ltb-false, eqb-false, not-false}
+use borrow.Author.Tests.{le-ltb, leb-false, ltb-false, not-false}
 use lib.Dec.{leb, ltb, eqb}
 use lib.ListN.{length, take, drop, length-take, length-drop}
 use Rattle.terms.specs.Lists.{_atFrontOf_}
 use Rattle.terms.specs.Refusals.{numberOf}
 use Rattle.terms.specs.declared.Refusal.{Refusal}
 use Rattle.terms.specs.declared.StreamId.{StreamId}
-use Rattle.terms.proofs.Laws.{and-left, and-right, past, or-false-left, or-false-right}
+use Rattle.terms.proofs.Laws.{and-left, and-right, past}
 use Rattle.terms.proofs.Numbers.{number-some}
 use Rattle.wire.proofs.Parts.{rest-back}
 use Rattle.writer.specs.Writing.{Said as W-Said, written, said, writeOf, outputAfter}
@@ -35,8 +34,10 @@ use Rattle.places.specs.declared.Sender.{Sender}
 use Rattle.places.proofs.Facts.{sized}
 use Rattle.places.specs.declared.Tally.{Tally}
 use Rattle.places.specs.declared.Tally.the-variants as Y
-use Rattle.submit.specs.Chunks.{chunksOf, dataPacket, Stored, storedBy}
-use Rattle.submit.specs.Submit.{freeOf, submitSaid, submitOf}
+use Rattle.submit_answer.specs.Answer.{chunksOf, freeOf, submitSaid}
+use Rattle.submit_answer.proofs.Lengths.{length-fair}
+use Rattle.submit.specs.Chunks.{dataPacket, Stored, storedBy}
+use Rattle.submit.specs.Submit.{submitOf}
 use Rattle.submit.specs.Steps.{ackedPacket, Acking, Roomy}
 
 -- ONE PACKET
@@ -94,21 +95,6 @@ pub stored-of : (r : Receiver) (send recv : StreamId) (acks : AckFields) (nacks 
 stored-of r send recv acks nacks e f packets bytes s store all g = g ∙ λ k. storedBy (ackedPacket (e k) (f k) send recv) packets bytes s store
 
 -- THE ANSWER
-
-pub chunks-some : (chunk size : ℕ) → 1 ≤ chunk → 1 ≤ size → 1 ≤ chunksOf chunk size
-chunks-some chunk size a b =
-    let h : 0 < chunk = omega arith in
-    let k : chunk ≤ size + (chunk - 1) = omega arith in
-    omega (arith, div-eq-sub-div h k)
-
-pub chunks-most : (chunk size : ℕ) → chunksOf chunk size ≤ size + (chunk - 1)
-chunks-most chunk size = div-le-self (size + (chunk - 1)) chunk
-
--- a length that is not wrong
-pub length-fair : (size : ℕ) → (eqb size 0 || ltb 65535 size) ≡ false → (1 ≤ size) × (size ≤ 65535)
-length-fair size e =
-    let n = eqb-false size 0 (or-false-left (eqb size 0) (ltb 65535 size) e) in
-    (omega (arith, n), ltb-false 65535 size (or-false-right (eqb size 0) (ltb 65535 size) e))
 
 -- what holds where packets are made
 pub record Made (s : Sender) (r : Receiver) (size storeLength : ℕ) (given : List ℕ) : Type 0 where

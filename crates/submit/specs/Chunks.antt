@@ -1,5 +1,5 @@
 -- What submit stores: the bytes in chunks of C, a packet for each, in the lowest free places, ascending.
-use Prim.Native.Nat.{ℕ, zero, suc, _+_, _-_, _/_}
+use Prim.Native.Nat.{ℕ, zero, suc, _+_}
 use mathlib.Core.List.{List, [], _++_}
 use lib.ListN.{length, set, take, drop}
 use Rattle.terms.specs.Lists.{_atFrontOf_}
@@ -11,10 +11,6 @@ use Rattle.ack.specs.Acknowledge.{ackedFields}
 use Rattle.places.specs.Table.{placeOf}
 use Rattle.places.specs.declared.Sender.{Sender}
 use Rattle.places.specs.Numbers.{offsetOf}
-
--- how many chunks so many bytes make; the last may be shorter
-abbrev pub chunksOf : ℕ → ℕ → ℕ
-chunksOf chunk size = (size + (chunk - 1)) / chunk
 
 -- the packet of a chunk: ids, resend delay, ack fields and delay option as in the plain ack of the receiver given, and its own number
 abbrev pub dataPacket : Receiver → StreamId → StreamId → ℕ → List ℕ → List ℕ

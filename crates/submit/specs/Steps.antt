@@ -10,7 +10,7 @@ use Rattle.writer.specs.Writing.{packetBytes}
 use Rattle.ack.specs.Acknowledge.{ackedFields}
 use Rattle.ack.specs.declared.AckFields.{AckFields}
 use Rattle.places.specs.declared.Sender.{Sender}
-use Rattle.submit.specs.Submit.{freeOf}
+use Rattle.submit_answer.specs.Answer.{freeOf}
 
 -- the packet of a chunk, with ack fields and NACKs in hand
 abbrev pub ackedPacket : AckFields → List ℕ → StreamId → StreamId → ℕ → List ℕ → List ℕ

@@ -1,22 +1,18 @@
 // Submitting bytes to a sender: they become packets that wait. Ports `packetize`: chunks of the state's chunk size, numbered in order,
 // each with the ack fields of the stream's receiving half.
 ghost use mathlib.Core.Path.{_≡_};
-ghost use mathlib.Core.Bool.{true, _&&_, _||_};
+ghost use mathlib.Core.Bool.{true};
 ghost use Prim.Native.Nat.{_+_, _≤_, min};
-ghost use lib.Dec.{eqb, ltb};
 ghost use lib.ListN.{length};
-ghost use Rattle.slots.specs.Rules.{rulesOf, slotFits};
-ghost use Rattle.places.specs.Rules.{rules, sizesFit};
+ghost use Rattle.slots.specs.Rules.{rulesOf};
 ghost use Rattle.places.specs.Numbers.{offsetOf};
-ghost use Rattle.places.specs.Answers.{saidTally};
-ghost use Rattle.submit.specs.Chunks.{chunksOf, dataPacket, laidAt, storedBy};
-ghost use Rattle.submit.specs.Submit.{submitSaid, submitOf, submittedOut};
+ghost use Rattle.submit.specs.Chunks.{dataPacket, laidAt, storedBy};
+ghost use Rattle.submit.specs.Submit.{submitOf, submittedOut};
 ghost use Rattle.submit.specs.Steps.{ackedPacket, Acking, Roomy};
 use ack::AckFields;
 use places::Sender;
 use places::Tally;
 use slots::Receiver;
-use terms::Refusal;
 use terms::SeqNo;
 use terms::StreamId;
 use writer::Fields;
@@ -26,72 +22,6 @@ use writer::Writing;
 pub struct Submitted {
     pub answer: Tally,
     pub state: Sender,
-}
-
-// Whether both states keep their rules.
-fn both_keep(s: Sender, r: Receiver) -> bool
-    ensures { λ b. ⌜ b ≡ (rules s && rulesOf r) ⌝ }
-{
-    if !rules::valid(s) {
-        return false;
-    }
-    slots::rules_hold(r.slot, r.next.0, r.highest.0, &r.marks)
-}
-
-// Whether the sender's sizes fit with its store, and the receiver's slot size, whose store is not lent.
-fn both_fit(chunk: u32, count: u32, store_length: usize, slot: u32) -> bool
-    ensures { λ b. ⌜ b ≡ (sizesFit chunk count «store_length» && slotFits slot) ⌝ }
-{
-    if !places::sizes_fit(chunk, count, store_length) {
-        return false;
-    }
-    slots::slot_fits(slot)
-}
-
-// Whether a length is none or above the most that is submitted at once.
-fn length_wrong(size: usize) -> bool
-    ensures { λ b. ⌜ b ≡ (eqb size 0 || ltb 65535 size) ⌝ }
-{
-    (size == 0) | (size > 65535)
-}
-
-// How many chunks so many bytes make.
-fn chunk_count(chunk: u32, size: usize) -> usize
-    requires { ⌜ (1 ≤ chunk) × (size ≤ 65535) ⌝ }
-    ensures { λ n. ⌜ n ≡ chunksOf chunk size ⌝ }
-{
-    (size + (chunk as usize - 1)) / chunk as usize
-}
-
-// What submit answers: the first refusal that applies, in document 01's order, or how many packets it makes.
-fn judge(s: Sender, r: Receiver, size: usize, store_length: usize) -> Tally
-    ensures { λ t. ⌜ saidTally t ≡ submitSaid s r size «store_length» ⌝ }
-{
-    let chunk = s.chunk;
-    let count = s.count;
-    let next = s.next.0;
-    let marks = s.marks;
-    if !both_keep(s, r) {
-        return Tally::Refused(Refusal::StateBroken);
-    }
-    if !both_fit(chunk, count, store_length, r.slot) {
-        return Tally::Refused(Refusal::SizeWrong);
-    }
-    if places::count_of(&marks, 1) > 0 {
-        return Tally::Refused(Refusal::PacketsWait);
-    }
-    if length_wrong(size) {
-        return Tally::Refused(Refusal::SubmitLength);
-    }
-    let packets = chunk_count(chunk, size);
-    if next as usize + (packets - 1) >= 4294967295 {
-        return Tally::Refused(Refusal::NumbersSpent);
-    }
-    let end = count as usize;
-    if places::count_of(&marks[..end], 0) < packets {
-        return Tally::Refused(Refusal::SlotsFew);
-    }
-    Tally::Count(packets as u32)
 }
 
 // The smaller of two lengths.
@@ -241,7 +171,7 @@ pub fn submit(
 ) -> Submitted
     ensures { λ a. ⌜ submittedOut a (now (store .exit)) ≡ submitOf s r send recv (now (bytes .entry)) (now (store .entry)) ⌝ }
 {
-    let answer = judge(s, r, bytes.len(), store.len());
+    let answer = submit_answer::judge(s, r, bytes.len(), store.len());
     match answer {
         Tally::Refused(_) => Submitted {
             answer: answer,

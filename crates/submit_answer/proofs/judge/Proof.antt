@@ -1,4 +1,4 @@
--- `submit::judge` meets its contract: at each return the tests that led there decide the ladder. Assumes nothing.
+-- `submit_answer::judge` meets its contract: at each return the tests that led there decide the ladder. Assumes nothing.
 use Prim.Native.Nat.{_+_, _-_, _≤_}
 use mathlib.Core.Path.{_≡_, sym, _∙_}
 use mathlib.Core.Bool.{true, false, _&&_, _||_}
@@ -15,12 +15,11 @@ use Rattle.slots.specs.Rules.{rulesOf, slotFits}
 use Rattle.places.specs.Table.{countOf}
 use Rattle.places.specs.Rules.{rules, sizesFit}
 use Rattle.places.proofs.Facts.{Sized, sized}
-use Rattle.submit.specs.Chunks.{chunksOf}
-use Rattle.submit.specs.Submit.{freeOf, submitSaid}
-use Rattle.submit.proofs.Ways.{chunks-some, chunks-most, length-fair}
+use Rattle.submit_answer.specs.Answer.{chunksOf, freeOf, submitSaid}
+use Rattle.submit_answer.proofs.Lengths.{chunks-some, chunks-most, length-fair}
 use borrow.Author.Needs.{needs}
-use Rattle.submit.proofs.judge.Statement.{statement}
-use Rattle.submit.proofs.judge.Tie as tie
+use Rattle.submit_answer.proofs.judge.Statement.{statement}
+use Rattle.submit_answer.proofs.judge.Tie as tie
 
 -- past the first two tests, and past the next two
 judged : (c : tie.Else2) → let a = c .before .before .before .before .before .args in

@@ -1,9 +1,9 @@
--- `submit::both_keep` meets its contract: each state is asked in turn. Assumes nothing.
+-- `submit_answer::both_keep` meets its contract: each state is asked in turn. Assumes nothing.
 use mathlib.Core.Path.{sym, _∙_}
 use borrow.Author.Tests.{not-true, not-false}
 use borrow.Author.Needs.{needs}
-use Rattle.submit.proofs.both_keep.Statement.{statement}
-use Rattle.submit.proofs.both_keep.Tie as tie
+use Rattle.submit_answer.proofs.both_keep.Statement.{statement}
+use Rattle.submit_answer.proofs.both_keep.Tie as tie
 
 valid-requires : tie.Need-valid-requires
 valid-requires c κs = search needs

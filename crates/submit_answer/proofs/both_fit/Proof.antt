@@ -1,9 +1,9 @@
--- `submit::both_fit` meets its contract: each size is asked in turn. Assumes nothing.
+-- `submit_answer::both_fit` meets its contract: each size is asked in turn. Assumes nothing.
 use mathlib.Core.Path.{sym, _∙_}
 use borrow.Author.Tests.{not-true, not-false}
 use borrow.Author.Needs.{needs}
-use Rattle.submit.proofs.both_fit.Statement.{statement}
-use Rattle.submit.proofs.both_fit.Tie as tie
+use Rattle.submit_answer.proofs.both_fit.Statement.{statement}
+use Rattle.submit_answer.proofs.both_fit.Tie as tie
 
 sizes-fit-requires : tie.Need-sizes-fit-requires
 sizes-fit-requires c κs = search needs

@@ -1,0 +1,2 @@
+-- The definitions that the promise cites: what submit answers.
+pub mod Answer
