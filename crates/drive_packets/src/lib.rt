@@ -52,10 +52,10 @@ fn places(bank: &mut Bank, p: Packet) {
 
 // A checksum of each part, as the calls for the parts return it.
 fn parts(bank: &mut Bank, packet: &[u8]) {
-    bank[ANSWERS + 18] = sum::checksum(packet::nacks(packet));
-    bank[ANSWERS + 19] = sum::checksum(packet::destination(packet));
-    bank[ANSWERS + 20] = sum::checksum(packet::signature(packet));
-    bank[ANSWERS + 21] = sum::checksum(packet::payload(packet));
+    bank[ANSWERS + 18] = sum::checksum(parts::nacks(packet));
+    bank[ANSWERS + 19] = sum::checksum(parts::destination(packet));
+    bank[ANSWERS + 20] = sum::checksum(parts::signature(packet));
+    bank[ANSWERS + 21] = sum::checksum(parts::payload(packet));
 }
 
 fn read(bank: &mut Bank, packet: &[u8]) {

@@ -168,7 +168,7 @@ pub fn receive(
         Reading::Read(p) => {
             tell::packet(p, how);
             let number = p.seq_nro;
-            accept(lamp, number, packet::payload(bytes), store, shown)
+            accept(lamp, number, parts::payload(bytes), store, shown)
         }
     }
 }

@@ -67,6 +67,6 @@ pub fn acknowledgement(bytes: &[u8]) {
     }
     say::named(b"  acknowledged: ack-through", p.ack_through.0 as u64);
     say::text(b", NACKs");
-    numbers(packet::nacks(bytes));
+    numbers(parts::nacks(bytes));
     say::text(b"\n");
 }

@@ -45,9 +45,9 @@ fn written(bytes: &[u8], p: Packet, nacks: &[u32; 256], n: usize, out: &mut [u8]
     writer::write(
         fields(p),
         part::front32(nacks, n),
-        packet::destination(bytes),
-        packet::signature(bytes),
-        packet::payload(bytes),
+        parts::destination(bytes),
+        parts::signature(bytes),
+        parts::payload(bytes),
         out,
     )
 }
@@ -67,6 +67,6 @@ fn same_front(out: &[u8; 65536], n: usize, bytes: &[u8]) -> bool {
 // Whether the packet comes out byte for byte. Option bytes that are left over are not written, so such a packet cannot.
 pub fn same(bytes: &[u8], p: Packet) -> bool {
     let mut nacks = [0u32; 256];
-    let n = numbers(packet::nacks(bytes), &mut nacks);
+    let n = numbers(parts::nacks(bytes), &mut nacks);
     written_same(bytes, p, &nacks, n)
 }

@@ -162,32 +162,32 @@ fn part_right(bytes: &[u8], part: &[u8], span: Span) -> bool {
 // Each part is what stands in the packet at its place.
 fn parts_right(bytes: &[u8], p: Packet) -> bool {
     let nacks = p.nacks;
-    if !part_right(bytes, packet::nacks(bytes), nacks) {
+    if !part_right(bytes, parts::nacks(bytes), nacks) {
         return false;
     }
     let destination = p.destination;
-    if !part_right(bytes, packet::destination(bytes), destination) {
+    if !part_right(bytes, parts::destination(bytes), destination) {
         return false;
     }
     let signature = p.signature;
-    if !part_right(bytes, packet::signature(bytes), signature) {
+    if !part_right(bytes, parts::signature(bytes), signature) {
         return false;
     }
     let payload = p.payload;
-    part_right(bytes, packet::payload(bytes), payload)
+    part_right(bytes, parts::payload(bytes), payload)
 }
 
 fn parts_empty(bytes: &[u8]) -> bool {
-    if packet::nacks(bytes).len() != 0 {
+    if parts::nacks(bytes).len() != 0 {
         return false;
     }
-    if packet::destination(bytes).len() != 0 {
+    if parts::destination(bytes).len() != 0 {
         return false;
     }
-    if packet::signature(bytes).len() != 0 {
+    if parts::signature(bytes).len() != 0 {
         return false;
     }
-    packet::payload(bytes).len() == 0
+    parts::payload(bytes).len() == 0
 }
 
 // What is wrong with a packet that is read is said.

@@ -8,7 +8,7 @@ use Rattle.terms.specs.Ladder.{_when_else_}
 use Rattle.terms.proofs.Numbers.{number-one, number-some}
 use Rattle.terms.proofs.Determined.{determined}
 use Rattle.packet.specs.Destination.{isDestination}
-use Rattle.packet.specs.Reading.{Said, said, readOf, nacksOf, destinationOf, signatureOf, payloadOf}
+use Rattle.packet.specs.Reading.{Said, said, readOf}
 use Rattle.packet.specs.declared.Packet.{Packet}
 use Rattle.packet.specs.declared.Reading.{Reading}
 use Rattle.packet.specs.declared.Reading.the-variants as R
@@ -31,18 +31,6 @@ read-determined packet a b p q = said-one a b (determined p q)
 
 pub is-destination-determined : (bytes : List ℕ) (a b : Bool) → a ≡ isDestination bytes → b ≡ isDestination bytes → a ≡ b
 is-destination-determined bytes a b p q = determined p q
-
-pub nacks-determined : (packet a b : List ℕ) → a ≡ nacksOf packet → b ≡ nacksOf packet → a ≡ b
-nacks-determined packet a b p q = determined p q
-
-pub destination-determined : (packet a b : List ℕ) → a ≡ destinationOf packet → b ≡ destinationOf packet → a ≡ b
-destination-determined packet a b p q = determined p q
-
-pub signature-determined : (packet a b : List ℕ) → a ≡ signatureOf packet → b ≡ signatureOf packet → a ≡ b
-signature-determined packet a b p q = determined p q
-
-pub payload-determined : (packet a b : List ℕ) → a ≡ payloadOf packet → b ≡ payloadOf packet → a ≡ b
-payload-determined packet a b p q = determined p q
 
 -- of the layer below, the one that asks nothing
 pub size-if-determined : (there : Bool) (size a b : ℕ) → a ≡ (size when there else 0) → b ≡ (size when there else 0) → a ≡ b

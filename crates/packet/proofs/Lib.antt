@@ -3,6 +3,5 @@ pub mod Form
 pub mod Moved
 pub mod Readable
 pub mod Looks
-pub mod Laws
 pub mod Ways
 pub mod Determined

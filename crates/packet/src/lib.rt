@@ -1,6 +1,6 @@
 // Reading I2P streaming packets: any bytes are answered, with every field or with the refusal that document 01 gives.
 // Ports `Packet::parse` and `Flags::new` of emissary. The packet stays the caller's: the record holds where each part stands,
-// and the parts themselves are returned as parts of the packet by calls of their own.
+// and the parts themselves are returned as parts of the packet by the calls of `parts`.
 mod area;
 pub mod flags;
 
@@ -8,7 +8,7 @@ ghost use mathlib.Core.Path.{_≡_};
 ghost use Prim.Native.Nat.{_+_, _*_, _≤_};
 ghost use lib.ListN.{length};
 ghost use Rattle.packet.specs.Destination.{isDestination};
-ghost use Rattle.packet.specs.Reading.{said, readOf, fieldsOf, spanned, payloadOf, nacksOf, destinationOf, signatureOf};
+ghost use Rattle.packet.specs.Reading.{said, readOf, fieldsOf};
 use terms::Refusal;
 use terms::SeqNo;
 use terms::StreamId;
@@ -135,74 +135,4 @@ pub fn read(packet: &[u8]) -> Reading
         Options::Refused(r) => Reading::Refused(r),
         Options::Found(f) => Reading::Read(fields(packet, count, end, flags, f)),
     }
-}
-
-// The fields, or those of no packet where the read is refused.
-fn fields_or_none(packet: &[u8]) -> Packet
-    ensures { λ r. ⌜ r ≡ readOf (now (packet .entry)) .values ⌝ }
-{
-    match read(packet) {
-        Reading::Read(p) => p,
-        Reading::Refused(_) => Packet {
-            send_stream_id: StreamId(0),
-            recv_stream_id: StreamId(0),
-            seq_nro: SeqNo(0),
-            ack_through: SeqNo(0),
-            nacks: Span { at: 0, len: 0 },
-            resend_delay: 0,
-            flags: 0,
-            delay: 0,
-            destination: Span { at: 0, len: 0 },
-            max_size: 0,
-            signature: Span { at: 0, len: 0 },
-            leftover: 0,
-            payload: Span { at: 0, len: 0 },
-        },
-    }
-}
-
-// A part of the packet.
-fn part(packet: &[u8], span: Span) -> &[u8]
-    requires { ⌜ span .at + span .len ≤ length (now packet) ⌝ }
-    ensures { λ r. ⌜ now r ≡ spanned (now (packet .entry)) span ⌝ }
-{
-    let from = span.at;
-    let to = from + span.len;
-    &packet[from..to]
-}
-
-// The NACKs, four bytes each, as they stand in the packet.
-pub fn nacks(packet: &[u8]) -> &[u8]
-    ensures { λ r. ⌜ now r ≡ nacksOf (now (packet .entry)) ⌝ }
-{
-    let p = fields_or_none(packet);
-    let span = p.nacks;
-    part(packet, span)
-}
-
-// The destination, empty where there is none or the read is refused.
-pub fn destination(packet: &[u8]) -> &[u8]
-    ensures { λ r. ⌜ now r ≡ destinationOf (now (packet .entry)) ⌝ }
-{
-    let p = fields_or_none(packet);
-    let span = p.destination;
-    part(packet, span)
-}
-
-// The signature, empty where there is none or the read is refused.
-pub fn signature(packet: &[u8]) -> &[u8]
-    ensures { λ r. ⌜ now r ≡ signatureOf (now (packet .entry)) ⌝ }
-{
-    let p = fields_or_none(packet);
-    let span = p.signature;
-    part(packet, span)
-}
-
-// The payload, empty where there is none or the read is refused.
-pub fn payload(packet: &[u8]) -> &[u8]
-    ensures { λ r. ⌜ now r ≡ payloadOf (now (packet .entry)) ⌝ }
-{
-    let p = fields_or_none(packet);
-    let span = p.payload;
-    part(packet, span)
 }

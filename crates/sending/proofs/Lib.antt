@@ -1,7 +1,6 @@
 -- How many numbers bear a mark (Counts), where a number stands (Stands), a table with one place moved in flight (Moves), with places freed (Frees) and
--- with other times (Again); the chunks, one packet more and a row of packets (Submitting..); what others cite: which numbers expire (Expired), the laws
--- of the calls (Starts, Submitting, SubmittingReads, Sends, Acks, Resends, Fetches) and of every run (Remembering, by what may become of a standing,
--- Lives, and by one call after another, Goes).
+-- with other times (Again); the chunks, one packet more and a row of packets (Submitting..); and what others cite: which numbers expire (Expired) and
+-- the laws of the calls (Starts, Submitting, SubmittingReads, Sends, Acks, Resends, Fetches).
 pub mod Counts
 pub mod Stands
 pub mod Moves
@@ -20,6 +19,3 @@ pub mod Sends
 pub mod Acks
 pub mod Resends
 pub mod Fetches
-pub mod Lives
-pub mod Goes
-pub mod Remembering

@@ -1,4 +1,2 @@
 pub mod Meaning
 pub mod Steps
-pub mod Runs
-pub mod Remembers

@@ -210,12 +210,12 @@ fn parts(at: u64, v: &Values, bytes: &[u8]) -> u64
     ensures { λ r. ⌜ r ≤ 4 ⌝ }
 {
     let count = v[NACKS] % 256 * 4;
-    let nacks = part_differs(at, b"nacks", bytes, packet::nacks(bytes), 17, count);
+    let nacks = part_differs(at, b"nacks", bytes, parts::nacks(bytes), 17, count);
     let dest = part_differs(
         at,
         b"destination",
         bytes,
-        packet::destination(bytes),
+        parts::destination(bytes),
         v[DEST_AT],
         v[DEST_LEN],
     );
@@ -223,7 +223,7 @@ fn parts(at: u64, v: &Values, bytes: &[u8]) -> u64
         at,
         b"signature",
         bytes,
-        packet::signature(bytes),
+        parts::signature(bytes),
         v[SIG_AT],
         v[SIG_LEN],
     );
@@ -231,7 +231,7 @@ fn parts(at: u64, v: &Values, bytes: &[u8]) -> u64
         at,
         b"payload",
         bytes,
-        packet::payload(bytes),
+        parts::payload(bytes),
         v[PAYLOAD_AT],
         v[PAYLOAD_LEN],
     );

@@ -1,11 +1,11 @@
--- `packet::payload` meets its contract: the part lies inside the packet, where `read` says. Assumes nothing.
+-- `parts::destination` meets its contract: the part lies inside the packet, where `read` says. Assumes nothing.
 use mathlib.Core.Path.{_∙_}
 use native.Mathlib.Omega.{arith}
 use borrow.Author.Needs.{needs}
 use denote.Ref.{now}
-use Rattle.packet.proofs.Laws.{parts-laid}
-use Rattle.packet.proofs.payload.Statement.{statement}
-use Rattle.packet.proofs.payload.Tie as tie
+use Rattle.parts.proofs.Laws.{parts-laid}
+use Rattle.parts.proofs.destination.Statement.{statement}
+use Rattle.parts.proofs.destination.Tie as tie
 
 fields-or-none-requires : tie.Need-fields-or-none-requires
 fields-or-none-requires c κs = search needs
@@ -18,5 +18,5 @@ part-requires c κs =
 returns : tie.Need-returns
 returns c = c .part .ensures ∙ rw (c .before .before .fields-or-none .ensures)
 
-pub payload-spec : {M : Type 1} → statement M
-payload-spec = tie.close (tie.spec fields-or-none-requires part-requires returns)
+pub destination-spec : {M : Type 1} → statement M
+destination-spec = tie.close (tie.spec fields-or-none-requires part-requires returns)

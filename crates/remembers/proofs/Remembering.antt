@@ -17,19 +17,19 @@ use Rattle.acks.specs.Acks.{acksOf}
 use Rattle.resend.specs.Resend.{resendOf}
 use Rattle.submit.specs.Submit.{submitOf}
 use Rattle.submit_answer.specs.Answer.{chunksOf}
 use Rattle.sending.specs.Meaning.{gone, standing, doesWait, doesFly, Sound}
 use Rattle.sending.specs.Steps.{goesAgain}
-use Rattle.sending.specs.Runs.{Call, submit, send, acks, resend, fetch, Event, Kept, stepOf, keptAfter, eventsOf, Run, begun, historyOf}
-use Rattle.sending.specs.Remembers.{fairTo, allFair, madeBy, madeIn, sentBy, sentIn, namedBy, namedIn, ackedIn, made, standingOf, Remembers}
 use Rattle.sending.proofs.Counts.{by-bool}
 use Rattle.sending.proofs.Starts.{start-sound, start-standing, start-chunk, start-count, start-next}
 use Rattle.sending.proofs.Submitting.{submit-refused, submit-done}
 use Rattle.sending.proofs.Sends.{send-nothing, send-changes, send-sound, send-fair}
 use Rattle.sending.proofs.Acks.{acks-nothing, acks-changes, acks-sound, acks-fair}
 use Rattle.sending.proofs.Resends.{resend-nothing, resend-changes, resend-sound, resend-fair}
 use Rattle.sending.proofs.Fetches.{fetch-fair}
-use Rattle.sending.proofs.Lives.{SinceSent, later-packet, sent-later, resent-later, acked-later}
-use Rattle.sending.proofs.Goes.{not-made, Goes, made-or-not, stayed, changed, goes-then, fair-submit, submitted}
+use Rattle.remembers.specs.Runs.{Call, submit, send, acks, resend, fetch, Event, Kept, stepOf, keptAfter, eventsOf, Run, begun, historyOf}
+use Rattle.remembers.specs.Remembers.{fairTo, allFair, madeBy, madeIn, sentBy, sentIn, namedBy, namedIn, ackedIn, made, standingOf, Remembers}
+use Rattle.remembers.proofs.Lives.{SinceSent, later-packet, sent-later, resent-later, acked-later}
+use Rattle.remembers.proofs.Goes.{not-made, Goes, made-or-not, stayed, changed, goes-then, fair-submit, submitted}
 
 -- acks that named a number before a send told it do not count, and those after it do
 abbrev telling : Event

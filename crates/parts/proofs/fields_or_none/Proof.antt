@@ -1,11 +1,11 @@
--- `packet::fields_or_none` meets its contract: it is the values that the answer of `read` says. Assumes nothing.
+-- `parts::fields_or_none` meets its contract: it is the values that the answer of `read` says. Assumes nothing.
 use mathlib.Core.Path.{sym, _∙_, ap}
 use Rattle.packet.specs.Reading.{Said, said}
 use Rattle.packet.specs.declared.Packet.{Packet}
 use Rattle.packet.specs.declared.Reading.{Reading}
 use borrow.Author.Needs.{needs}
-use Rattle.packet.proofs.fields_or_none.Statement.{statement}
-use Rattle.packet.proofs.fields_or_none.Tie as tie
+use Rattle.parts.proofs.fields_or_none.Statement.{statement}
+use Rattle.parts.proofs.fields_or_none.Tie as tie
 
 abbrev values-of : Said → Packet
 values-of s = s .values

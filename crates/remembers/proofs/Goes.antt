@@ -18,14 +18,14 @@ use Rattle.slots.specs.declared.Receiver.{Receiver}
 use Rattle.places.specs.declared.Sender.{Sender}
 use Rattle.submit.specs.Submit.{submitOf}
 use Rattle.submit.specs.Chunks.{dataPacket}
 use Rattle.sending.specs.Meaning.{Standing, waits, standing, Sound}
 use Rattle.sending.specs.Steps.{chunkAt, submittedAs}
-use Rattle.sending.specs.Runs.{submit, Kept, stepOf}
-use Rattle.sending.specs.Remembers.{isUsable, fairTo}
 use Rattle.sending.proofs.Counts.{by-bool}
 use Rattle.sending.proofs.Stands.{unmade-from}
 use Rattle.sending.proofs.Submitting.{submit-stores, submit-fair}
-use Rattle.sending.proofs.Lives.{Later, SinceSent, later-then, later-same}
+use Rattle.remembers.specs.Runs.{submit, Kept, stepOf}
+use Rattle.remembers.specs.Remembers.{isUsable, fairTo}
+use Rattle.remembers.proofs.Lives.{Later, SinceSent, later-then, later-same}
 
 -- the standing of a number in what a call leaves
 abbrev pub standingIn : Kept → ℕ → Standing

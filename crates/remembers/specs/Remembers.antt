@@ -13,9 +13,9 @@ use Rattle.slots.specs.Rules.{rulesOf, slotFits}
 use Rattle.slots.specs.declared.Receiver.{Receiver}
 use Rattle.places.specs.Table.{_unless_}
 use Rattle.submit.specs.Chunks.{dataPacket}
 use Rattle.sending.specs.Meaning.{Standing, unmade, waits, gone, packetIn, doesFly, standing, Sound}
 use Rattle.sending.specs.Steps.{isFair, isNamed, chunkAt}
-use Rattle.sending.specs.Runs.{Call, submit, send, acks, resend, fetch, Event, Run, historyOf, endOf}
+use Rattle.remembers.specs.Runs.{Call, submit, send, acks, resend, fetch, Event, Run, historyOf, endOf}
 
 -- a receiver that keeps its rules, with a slot size in range
 abbrev pub isUsable : Receiver → Bool

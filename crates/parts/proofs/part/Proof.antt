@@ -1,8 +1,8 @@
--- `packet::part` meets its contract: a part from its first byte to its last. Assumes nothing.
+-- `parts::part` meets its contract: a part from its first byte to its last. Assumes nothing.
 use native.Mathlib.Nat.{add-sub-cancel-left}
 use borrow.Author.Needs.{needs}
-use Rattle.packet.proofs.part.Statement.{statement}
-use Rattle.packet.proofs.part.Tie as tie
+use Rattle.parts.proofs.part.Statement.{statement}
+use Rattle.parts.proofs.part.Tie as tie
 
 add-to : tie.Need-add-to
 add-to c = search needs

@@ -1,0 +1,4 @@
+-- What may become of a standing (Lives), one call after another (Goes), and what others cite: the laws of every run (Remembering).
+pub mod Lives
+pub mod Goes
+pub mod Remembering

@@ -1,0 +1,1 @@
+// Runs of a sender, and what is promised of every run. There is no code here.
