@@ -2,7 +2,7 @@
 SEED ?= 1
 SOAK_COUNT ?= 5000000
 
-.PHONY: demo test links expected built compare soak host
+.PHONY: demo test links expected built compare soak wrong host
 
 # The story of the lamps: the same packets, given to our receiver and to the Rust's.
 demo:
@@ -45,6 +45,10 @@ compare: built
 # Longer: rounds of whole runs and of hostile calls with seeds of their own, until SOAK_COUNT calls were compared.
 soak: built
 	@oracle/soak.sh $(SEED) $(SOAK_COUNT)
+
+# The wrong programs that the gate leaves out for its time (D47).
+wrong:
+	@tools/wrong
 
 # Hosts in C over the static library: each prints the lines that our own program of its name prints, but for the last of `thousand`,
 # which tells of the calls by value.
