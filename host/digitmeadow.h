@@ -1,7 +1,7 @@
 /* The receiving half of an I2P stream, for hosts: libhost.a, made by `rt staticlib host`, for Linux on x86-64.
  *
  * Every call is total: whatever the bytes, numbers and states, it ends, reads and writes only what it was lent, and answers. No call
- * keeps a pointer, allocates, waits or locks. What each does is proved; the definitions are in crates/host/specs and those that they name.
+ * keeps a pointer, allocates, waits or locks. What each does is proved; the definitions are in crates/host_numbers/specs and those that they name.
  *
  * What the host owes, since C cannot check it: a pointer is to as many bytes as the length after it says, and to one struct where none
  * does; it may be anything but null where the length is 0; what a call may change overlaps nothing else that the call is lent.

@@ -11,10 +11,10 @@ use Rattle.receiver.specs.Accept.{acceptOf}
 use Rattle.receiver.specs.Take.{takeOf}
 use Rattle.slots.specs.declared.Receiver.{Receiver}
 use Rattle.ack.specs.Acknowledge.{acknowledgeOf}
-use Rattle.host.specs.declared.Counted.{Counted}
-use Rattle.host.specs.declared.Fields.{Fields}
-use Rattle.host.specs.Numbers.{Hosted, hosted, hostedStart, begun, answered, counted, HostedAck, hostedAck, wrote}
-use Rattle.host.specs.Fields.{fieldsOf}
+use Rattle.host_numbers.specs.declared.Counted.{Counted}
+use Rattle.host_numbers.specs.declared.Fields.{Fields}
+use Rattle.host_numbers.specs.Numbers.{Hosted, hosted, hostedStart, begun, answered, counted, HostedAck, hostedAck, wrote}
+use Rattle.host_numbers.specs.Fields.{fieldsOf}
 
 pub digitmeadow-read-determined : (packet : List ℕ) (a b : Fields) → a ≡ fieldsOf (readOf packet) → b ≡ fieldsOf (readOf packet) → a ≡ b
 digitmeadow-read-determined packet a b p q = determined p q

@@ -1,4 +1,4 @@
--- `host::digitmeadow_acknowledge` meets its contract: a walk of its MIR, by hand. The state behind the `&` is copied out, and `acknowledgement` is called on the copy; the output is given to it for good.
+-- `host::digitmeadow_acknowledge` meets its contract: a walk of its MIR, by hand. The state behind the `&` is copied out, and `host_numbers::acknowledgement` is called on the copy; the output is given to it for good.
 -- All that the proof knows of `acknowledgement` is that it meets its contract. Assumes nothing.
 use mathlib.Core.Path.{_≡_, refl, ap}
 use Prim.Native.Nat.{ℕ, _<_, _^_}
@@ -45,14 +45,14 @@ use Rattle.ack.specs.Acknowledge.{acknowledgeOf}
 use Rattle.slots.proofs.Receiver as T
 use Rattle.slots.proofs.Receiver.Laws as T′
 use Rattle.inplace.proofs.State.{vals}
-use Rattle.host.specs.declared.Counted.{Counted}
-use Rattle.host.specs.Numbers.{hostedAck, wrote}
-use Rattle.host.proofs.Counted as K
-use Rattle.host.proofs.Counted.Laws as K′
-use Rattle.host.proofs.acknowledgement as core
-use Rattle.host.proofs.acknowledgement.Symbol as core-def
-use Rattle.host.proofs.acknowledgement.Symbol.{name as #host·acknowledgement}
-use Rattle.host.proofs.acknowledgement.Met as core-thm
+use Rattle.host_numbers.specs.declared.Counted.{Counted}
+use Rattle.host_numbers.specs.Numbers.{hostedAck, wrote}
+use Rattle.host_numbers.proofs.Counted as K
+use Rattle.host_numbers.proofs.Counted.Laws as K′
+use Rattle.host_numbers.proofs.acknowledgement as core
+use Rattle.host_numbers.proofs.acknowledgement.Symbol as core-def
+use Rattle.host_numbers.proofs.acknowledgement.Symbol.{name as #host-numbers·acknowledgement}
+use Rattle.host_numbers.proofs.acknowledgement.Met as core-thm
 use Rattle.host.proofs.digitmeadow_acknowledge.Key.{name as #host·digitmeadow-acknowledge}
 use Rattle.host.proofs.digitmeadow_acknowledge as f
 use Rattle.host.proofs.digitmeadow_acknowledge.Statement as stated
@@ -107,7 +107,7 @@ module _ {M : Type 1} (𝓤 : URA M) (H : Heap 𝓤) (A : Atoms 𝓤) (W : Given
       says ! e $ join ! $ frame ! $ nothing ! $ move ! (1 ∷ 0 ∷ []) $ fjoin ! $ nothing ! $ fjoin ! $ nothing ! $ fjoin ! $ nothing ! $ fjoin ! $
       owned ! K.the-row (Is K.the-row) (LL.makes K.the-type K′.the-plain 𝓤 H A) r _ is $ move ! (1 ∷ 0 ∷ []) $ done !
 
-  module _ (C : Calls 𝓤 H) (Λ : Loops 𝓤 H) (fm : FmC 𝓤 H (W .laws) C) (known : Triple 𝓤 (C #host·acknowledgement) (Core 𝓤 H A at-mem run)) where
+  module _ (C : Calls 𝓤 H) (Λ : Loops 𝓤 H) (fm : FmC 𝓤 H (W .laws) C) (known : Triple 𝓤 (C #host-numbers·acknowledgement) (Core 𝓤 H A at-mem run)) where
     walk : ent 𝓤 (onEntry 𝓤 H A f.signature (κ, (κ′, tt)) (q, (q′, tt)) x at) (WpFn 𝓤 H C Λ code.function (vptr b o ∷ vint w32 send ∷ vint w32 recv ∷ m ∷ []) Post)
     walk =
         qed W ((‵ (flft κ q) ⊛ ‵ (flft κ′ q′) ⊛ ‵ ftrue) ∷ ‵ (owns (ShrRef (named 0) κ T.the-row ∷ u32 ∷ u32 ∷ MutSlice (named 1) κ′ u8 ∷ []) x at) ∷ []) ∵ enter ! C Λ code.function (vptr b o ∷ vint w32 send ∷ vint w32 recv ∷ m ∷ []) _ $
@@ -139,12 +139,12 @@ module _ {M : Type 1} (𝓤 : URA M) (H : Heap 𝓤) (A : Atoms 𝓤) (W : Given
         keep ! (3 ∷ 0 ∷ 1 ∷ []) $ by ! (exits r (ws .1 .1 .1 .0) e l (LL.owes K.the-type K′.the-laws r (LL.owed K.the-type K′.the-laws r _ is)))))))))))))))))))
 
 module _ {M : Type 1} (𝓤 : URA M) (H : Heap 𝓤) (A : Atoms 𝓤) (W : Given 𝓤 H A) (mem : Memory → SProp 𝓤) (run : Routine → Fun 𝓤) where
-  f-walks : (C : Calls 𝓤 H) (Λ : Loops 𝓤 H) → FmC 𝓤 H (W .laws) C → Triple 𝓤 (C #host·acknowledgement) (Core 𝓤 H A mem run) → Walks 𝓤 H A f.ended stayed (WpFn 𝓤 H C Λ code.function) (f.clauses 𝓤 H A mem run)
+  f-walks : (C : Calls 𝓤 H) (Λ : Loops 𝓤 H) → FmC 𝓤 H (W .laws) C → Triple 𝓤 (C #host-numbers·acknowledgement) (Core 𝓤 H A mem run) → Walks 𝓤 H A f.ended stayed (WpFn 𝓤 H C Λ code.function) (f.clauses 𝓤 H A mem run)
   f-walks C Λ fm known = walked 𝓤 H A f.ended stayed (f.clauses 𝓤 H A mem run) (WpFn 𝓤 H C Λ code.function) (λ κs. (ptr-vals, (uint-vals w32, (uint-vals w32, (slice-vals, tt)))))
       (λ κs. (shr-tells (named 0) (κs .0) T.the-row, (uint-tells w32, (uint-tells w32, (mut-slice-tells (named 1) (κs .1 .0) u8, tt)))))
       (λ κs qs bounds a g are. via 𝓤 _ (fst∗ 𝓤 _ (emp 𝓤)) (walk 𝓤 H A W mem run (κs .0) (κs .1 .0) bounds (qs .0) (qs .1 .0) (a .0 .ptr .0) (a .0 .ptr .1) (a .0 .name) (a .0 .now) (a .1 .0) (a .1 .1 .0) (a .1 .1 .1 .0) (are .1 .0 .1) (are .1 .1 .0 .1) (are .1 .1 .1 .0 .0 .1) C Λ fm known))
 
-f-meets : {M : Type 1} (𝓤 : URA M) (H : Heap 𝓤) (A : Atoms 𝓤) → Given 𝓤 H A → (mem : Memory → SProp 𝓤) (run : Routine → Fun 𝓤) (𝓣 : Tables 𝓤 H) → Triple 𝓤 (𝓣 .C #host·acknowledgement) (Core 𝓤 H A mem run)
+f-meets : {M : Type 1} (𝓤 : URA M) (H : Heap 𝓤) (A : Atoms 𝓤) → Given 𝓤 H A → (mem : Memory → SProp 𝓤) (run : Routine → Fun 𝓤) (𝓣 : Tables 𝓤 H) → Triple 𝓤 (𝓣 .C #host-numbers·acknowledgement) (Core 𝓤 H A mem run)
     → Meets 𝓤 H A f.signature (WpFn 𝓤 H (𝓣 .C) (𝓣 .Λ) code.function) (f.spec 𝓤 H A mem run)
 f-meets 𝓤 H A W mem run 𝓣 known =
     walk-meets 𝓤 H A f.ended stayed W (goes-dropped 𝓤 H A W 2 (shrRefTo (0 ∷ []) tt (plain (λ _. T.the-row))) yes (λ κs x f. refl), (goes-dropped 𝓤 H A W 2 (plain (λ _. u32)) yes (λ κs x f. refl), (goes-dropped 𝓤 H A W 2 (plain (λ _. u32)) yes (λ κs x f. refl), (goes-gave-slice 𝓤 H A W 2 1 tt (plain (λ _. u8)), tt)))) (f.clauses 𝓤 H A mem run)
@@ -156,4 +156,4 @@ digitmeadow-acknowledge-spec 𝓤 H 𝓜 𝓖 𝓡 =
     entered 𝓤 H (tripleOf 𝓤 H (𝓖 .A) f.signature (f.spec 𝓤 H (𝓖 .A) (𝓜 .mem) (𝓡 .run)))
     (tables 𝓤 H 𝓜 𝓡 code.env .C) (tables 𝓤 H 𝓜 𝓡 code.env .Λ) #host·digitmeadow-acknowledge code.function (code.unfolded 𝓤 H 𝓜 𝓡)
     (f-meets 𝓤 H (𝓖 .A) (givenOf 𝓤 H 𝓜 𝓖) (𝓜 .mem) (𝓡 .run) (tablesOf 𝓤 H 𝓜 (tables 𝓤 H 𝓜 𝓡 code.env))
-    (cited 𝓤 H (Core 𝓤 H (𝓖 .A) (𝓜 .mem) (𝓡 .run)) 𝓜 𝓡 code.env #host·acknowledgement core-def.routine code.calls-host·acknowledgement (core-thm.met 𝓤 H 𝓜 𝓖 𝓡)))
+    (cited 𝓤 H (Core 𝓤 H (𝓖 .A) (𝓜 .mem) (𝓡 .run)) 𝓜 𝓡 code.env #host-numbers·acknowledgement core-def.routine code.calls-host-numbers·acknowledgement (core-thm.met 𝓤 H 𝓜 𝓖 𝓡)))

@@ -2,7 +2,7 @@
 use Prim.Native.Nat.{ℕ}
 use mathlib.Core.Path.{sym, _∙_, ap}
 use Rattle.packet.specs.Reading.{said, nothing}
-use Rattle.host.specs.Fields.{fieldsOf}
+use Rattle.host_numbers.specs.Fields.{fieldsOf}
 use borrow.Author.Needs.{needs}
 use Rattle.host.proofs.digitmeadow_read.Statement.{statement}
 use Rattle.host.proofs.digitmeadow_read.Tie as tie

@@ -1,4 +1,4 @@
--- `host::digitmeadow_start` meets its contract: a walk of its MIR, by hand. The borrow is opened, the state is copied out, `begin` is called on the copy, and the borrow is closed at the state that it gave.
+-- `host::digitmeadow_start` meets its contract: a walk of its MIR, by hand. The borrow is opened, the state is copied out, `host_numbers::begin` is called on the copy, and the borrow is closed at the state that it gave.
 -- All that the proof knows of `begin` is that it meets its contract. Assumes nothing.
 use mathlib.Core.Path.{_≡_, refl, ap}
 use Prim.Native.Nat.{ℕ, _<_, _^_}
@@ -46,14 +46,14 @@ use Rattle.slots.specs.Start.{startOf}
 use Rattle.slots.proofs.Receiver as T
 use Rattle.slots.proofs.Receiver.Laws as T′
 use Rattle.inplace.proofs.State.{vals}
-use Rattle.host.specs.declared.Begun.{Begun}
-use Rattle.host.specs.Numbers.{hostedStart, begun}
-use Rattle.host.proofs.Begun as P
-use Rattle.host.proofs.Begun.Laws as P′
-use Rattle.host.proofs.begin as core
-use Rattle.host.proofs.begin.Symbol as core-def
-use Rattle.host.proofs.begin.Symbol.{name as #host·begin}
-use Rattle.host.proofs.begin.Met as core-thm
+use Rattle.host_numbers.specs.declared.Begun.{Begun}
+use Rattle.host_numbers.specs.Numbers.{hostedStart, begun}
+use Rattle.host_numbers.proofs.Begun as P
+use Rattle.host_numbers.proofs.Begun.Laws as P′
+use Rattle.host_numbers.proofs.begin as core
+use Rattle.host_numbers.proofs.begin.Symbol as core-def
+use Rattle.host_numbers.proofs.begin.Symbol.{name as #host-numbers·begin}
+use Rattle.host_numbers.proofs.begin.Met as core-thm
 use Rattle.host.proofs.digitmeadow_start.Key.{name as #host·digitmeadow-start}
 use Rattle.host.proofs.digitmeadow_start as f
 use Rattle.host.proofs.digitmeadow_start.Statement as stated
@@ -119,7 +119,7 @@ module _ {M : Type 1} (𝓤 : URA M) (H : Heap 𝓤) (A : Atoms 𝓤) (W : Given
       frame ! $ feqI ! (List Val) (vptr b o ∷ []) (vptr b o ∷ []) refl $ fjoin3 ! $ nothing ! $ nothing ! $ fjoin ! $ nothing ! $ fjoin ! $ nothing ! $ fjoin ! $
       move ! (1 ∷ 0 ∷ []) $ fjoin ! $ owned ! u32 (Is u32) (uint-makes 𝓤 H A W w32) (r .refusal) _ (refl, fits) $ move ! (1 ∷ 0 ∷ []) $ done !
 
-  module _ (C : Calls 𝓤 H) (Λ : Loops 𝓤 H) (fm : FmC 𝓤 H (W .laws) C) (known : Triple 𝓤 (C #host·begin) (Core 𝓤 H A at-mem run)) where
+  module _ (C : Calls 𝓤 H) (Λ : Loops 𝓤 H) (fm : FmC 𝓤 H (W .laws) C) (known : Triple 𝓤 (C #host-numbers·begin) (Core 𝓤 H A at-mem run)) where
     walk : ent 𝓤 (onEntry 𝓤 H A f.signature (κ, (κ′, tt)) (q, (q′, tt)) x at) (WpFn 𝓤 H C Λ code.function (vptr b o ∷ vint w32 s ∷ vint w32 slot ∷ m ∷ []) Post)
     walk =
         qed W ((‵ (flft κ q) ⊛ ‵ (flft κ′ q′) ⊛ ‵ ftrue) ∷ ‵ (owns (MutRef (named 0) κ T.the-row ∷ u32 ∷ u32 ∷ ShrSlice (named 1) κ′ u8 ∷ []) x at) ∷ []) ∵ enter ! C Λ code.function (vptr b o ∷ vint w32 s ∷ vint w32 slot ∷ m ∷ []) _ $
@@ -149,12 +149,12 @@ module _ {M : Type 1} (𝓤 : URA M) (H : Heap 𝓤) (A : Atoms 𝓤) (W : Given
         keep ! (0 ∷ 1 ∷ 2 ∷ 3 ∷ []) $ by ! (exits r e (refusal-fits r w is)))))))))))))))
 
 module _ {M : Type 1} (𝓤 : URA M) (H : Heap 𝓤) (A : Atoms 𝓤) (W : Given 𝓤 H A) (mem : Memory → SProp 𝓤) (run : Routine → Fun 𝓤) where
-  f-walks : (C : Calls 𝓤 H) (Λ : Loops 𝓤 H) → FmC 𝓤 H (W .laws) C → Triple 𝓤 (C #host·begin) (Core 𝓤 H A mem run) → Walks 𝓤 H A f.ended stayed (WpFn 𝓤 H C Λ code.function) (f.clauses 𝓤 H A mem run)
+  f-walks : (C : Calls 𝓤 H) (Λ : Loops 𝓤 H) → FmC 𝓤 H (W .laws) C → Triple 𝓤 (C #host-numbers·begin) (Core 𝓤 H A mem run) → Walks 𝓤 H A f.ended stayed (WpFn 𝓤 H C Λ code.function) (f.clauses 𝓤 H A mem run)
   f-walks C Λ fm known = walked 𝓤 H A f.ended stayed (f.clauses 𝓤 H A mem run) (WpFn 𝓤 H C Λ code.function) (λ κs. (ptr-vals, (uint-vals w32, (uint-vals w32, (slice-vals, tt)))))
       (λ κs. (mut-tells (named 0) (κs .0) T.the-row, (uint-tells w32, (uint-tells w32, (shr-slice-tells (named 1) (κs .1 .0) u8, tt)))))
       (λ κs qs bounds a g are. via 𝓤 _ (fst∗ 𝓤 _ (emp 𝓤)) (walk 𝓤 H A W mem run (κs .0) (κs .1 .0) bounds (qs .0) (qs .1 .0) (a .0 .ptr .0) (a .0 .ptr .1) (a .0 .name) (a .0 .now) (a .1 .0) (a .1 .1 .0) (a .1 .1 .1 .0) (are .1 .0 .1) (are .1 .1 .0 .1) (are .1 .1 .1 .0 .0 .1) C Λ fm known))
 
-f-meets : {M : Type 1} (𝓤 : URA M) (H : Heap 𝓤) (A : Atoms 𝓤) → Given 𝓤 H A → (mem : Memory → SProp 𝓤) (run : Routine → Fun 𝓤) (𝓣 : Tables 𝓤 H) → Triple 𝓤 (𝓣 .C #host·begin) (Core 𝓤 H A mem run)
+f-meets : {M : Type 1} (𝓤 : URA M) (H : Heap 𝓤) (A : Atoms 𝓤) → Given 𝓤 H A → (mem : Memory → SProp 𝓤) (run : Routine → Fun 𝓤) (𝓣 : Tables 𝓤 H) → Triple 𝓤 (𝓣 .C #host-numbers·begin) (Core 𝓤 H A mem run)
     → Meets 𝓤 H A f.signature (WpFn 𝓤 H (𝓣 .C) (𝓣 .Λ) code.function) (f.spec 𝓤 H A mem run)
 f-meets 𝓤 H A W mem run 𝓣 known =
     walk-meets 𝓤 H A f.ended stayed W (goes-ref 𝓤 H A W 2 0 tt (plain (λ _. T.the-row)), (goes-dropped 𝓤 H A W 2 (plain (λ _. u32)) yes (λ κs x f. refl), (goes-dropped 𝓤 H A W 2 (plain (λ _. u32)) yes (λ κs x f. refl), (goes-dropped 𝓤 H A W 2 (shrSliceOf (1 ∷ []) tt (plain (λ _. u8))) yes (λ κs x f. refl), tt)))) (f.clauses 𝓤 H A mem run)
@@ -166,4 +166,4 @@ digitmeadow-start-spec 𝓤 H 𝓜 𝓖 𝓡 =
     entered 𝓤 H (tripleOf 𝓤 H (𝓖 .A) f.signature (f.spec 𝓤 H (𝓖 .A) (𝓜 .mem) (𝓡 .run)))
     (tables 𝓤 H 𝓜 𝓡 code.env .C) (tables 𝓤 H 𝓜 𝓡 code.env .Λ) #host·digitmeadow-start code.function (code.unfolded 𝓤 H 𝓜 𝓡)
     (f-meets 𝓤 H (𝓖 .A) (givenOf 𝓤 H 𝓜 𝓖) (𝓜 .mem) (𝓡 .run) (tablesOf 𝓤 H 𝓜 (tables 𝓤 H 𝓜 𝓡 code.env))
-    (cited 𝓤 H (Core 𝓤 H (𝓖 .A) (𝓜 .mem) (𝓡 .run)) 𝓜 𝓡 code.env #host·begin core-def.routine code.calls-host·begin (core-thm.met 𝓤 H 𝓜 𝓖 𝓡)))
+    (cited 𝓤 H (Core 𝓤 H (𝓖 .A) (𝓜 .mem) (𝓡 .run)) 𝓜 𝓡 code.env #host-numbers·begin core-def.routine code.calls-host-numbers·begin (core-thm.met 𝓤 H 𝓜 𝓖 𝓡)))

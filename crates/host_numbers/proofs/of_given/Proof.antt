@@ -1,11 +1,11 @@
--- `host::of_given` meets its contract: each case of the answer has its numbers. Assumes nothing.
+-- `host_numbers::of_given` meets its contract: each case of the answer has its numbers. Assumes nothing.
 use mathlib.Core.Path.{sym, _∙_, ap}
 use Rattle.terms.specs.Answers.{saidOf}
 use Rattle.terms.specs.declared.Given.{Given}
-use Rattle.host.specs.Numbers.{inNumbers}
+use Rattle.host_numbers.specs.Numbers.{inNumbers}
 use borrow.Author.Needs.{needs}
-use Rattle.host.proofs.of_given.Statement.{statement}
-use Rattle.host.proofs.of_given.Tie as tie
+use Rattle.host_numbers.proofs.of_given.Statement.{statement}
+use Rattle.host_numbers.proofs.of_given.Tie as tie
 
 enum-known-g : tie.Need-enum-known-g
 enum-known-g c = search needs

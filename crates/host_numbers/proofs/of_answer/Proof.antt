@@ -1,11 +1,11 @@
--- `host::of_answer` meets its contract: each case of the answer has its number. Assumes nothing.
+-- `host_numbers::of_answer` meets its contract: each case of the answer has its number. Assumes nothing.
 use mathlib.Core.Path.{sym, _∙_, ap}
 use Rattle.terms.specs.Answers.{said}
 use Rattle.terms.specs.declared.Answer.{Answer}
-use Rattle.host.specs.Numbers.{inNumbers}
+use Rattle.host_numbers.specs.Numbers.{inNumbers}
 use borrow.Author.Needs.{needs}
-use Rattle.host.proofs.of_answer.Statement.{statement}
-use Rattle.host.proofs.of_answer.Tie as tie
+use Rattle.host_numbers.proofs.of_answer.Statement.{statement}
+use Rattle.host_numbers.proofs.of_answer.Tie as tie
 
 enum-told : tie.Need-enum-told
 enum-told c = search needs

@@ -1,12 +1,12 @@
--- `host::begin` meets its contract: it gives what `receiver::start` says, in numbers, and where that is a refusal the state that was given. Assumes nothing.
+-- `host_numbers::begin` meets its contract: it gives what `slots::start` says, in numbers, and where that is a refusal the state that was given. Assumes nothing.
 use Prim.Native.Nat.{ℕ}
 use mathlib.Core.Path.{_∙_, ap}
 use Rattle.terms.specs.declared.Answer.the-variants as A
-use Rattle.host.specs.Numbers.{begun}
-use Rattle.host.proofs.Answers.{known-start}
+use Rattle.host_numbers.specs.Numbers.{begun}
+use Rattle.host_numbers.proofs.Starts.{known-start}
 use borrow.Author.Needs.{needs}
-use Rattle.host.proofs.begin.Statement.{statement}
-use Rattle.host.proofs.begin.Tie as tie
+use Rattle.host_numbers.proofs.begin.Statement.{statement}
+use Rattle.host_numbers.proofs.begin.Tie as tie
 
 start-requires : tie.Need-start-requires
 start-requires c κs = search needs

@@ -1,8 +1,8 @@
--- `host::of_packet` meets its contract: field by field, and each part by `of_span`. Assumes nothing.
+-- `host_numbers::of_packet` meets its contract: field by field, and each part by `of_span`. Assumes nothing.
 
 use borrow.Author.Needs.{needs}
-use Rattle.host.proofs.of_packet.Statement.{statement}
-use Rattle.host.proofs.of_packet.Tie as tie
+use Rattle.host_numbers.proofs.of_packet.Statement.{statement}
+use Rattle.host_numbers.proofs.of_packet.Tie as tie
 
 of-span-requires : tie.Need-of-span-requires
 of-span-requires c κs = search needs

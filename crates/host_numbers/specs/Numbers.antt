@@ -5,7 +5,7 @@ use Rattle.terms.specs.Answers.{Said, refusal, values, _unlessRefused_else_}
 use Rattle.slots.specs.Answers.{Outcome}
 use Rattle.slots.specs.declared.Receiver.{Receiver}
 use Rattle.ack.specs.Acknowledge.{Acknowledges}
-use Rattle.host.specs.declared.Counted.{Counted}
+use Rattle.host_numbers.specs.declared.Counted.{Counted}
 
 abbrev pub firstOr0 : List ℕ → ℕ
 firstOr0 [] = 0

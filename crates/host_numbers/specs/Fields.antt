@@ -1,8 +1,8 @@
 -- A packet as it is read, in numbers alone.
 use Rattle.packet.specs.Reading.{Said}
 use Rattle.packet.specs.declared.Span.{Span}
-use Rattle.host.specs.declared.Part.{Part}
-use Rattle.host.specs.declared.Fields.{Fields}
+use Rattle.host_numbers.specs.declared.Part.{Part}
+use Rattle.host_numbers.specs.declared.Fields.{Fields}
 
 abbrev pub partOf : Span → Part
 partOf s = record { at = s .at; len = s .len }

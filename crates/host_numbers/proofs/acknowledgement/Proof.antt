@@ -1,9 +1,9 @@
--- `host::acknowledgement` meets its contract: it gives what `ack::acknowledge` says, in numbers. Assumes nothing.
+-- `host_numbers::acknowledgement` meets its contract: it gives what `ack::acknowledge` says, in numbers. Assumes nothing.
 use mathlib.Core.Path.{_∙_, ap}
-use Rattle.host.specs.Numbers.{hostedAck, wrote}
+use Rattle.host_numbers.specs.Numbers.{hostedAck, wrote}
 use borrow.Author.Needs.{needs}
-use Rattle.host.proofs.acknowledgement.Statement.{statement}
-use Rattle.host.proofs.acknowledgement.Tie as tie
+use Rattle.host_numbers.proofs.acknowledgement.Statement.{statement}
+use Rattle.host_numbers.proofs.acknowledgement.Tie as tie
 
 acknowledge-requires : tie.Need-acknowledge-requires
 acknowledge-requires c κs = search needs

@@ -1,11 +1,11 @@
--- `host::of_acknowledged` meets its contract: each case of the answer has its numbers. Assumes nothing.
+-- `host_numbers::of_acknowledged` meets its contract: each case of the answer has its numbers. Assumes nothing.
 use mathlib.Core.Path.{sym, _∙_, ap}
 use Rattle.ack.specs.Acknowledge.{said}
 use Rattle.ack.specs.declared.Acknowledged.{Acknowledged}
-use Rattle.host.specs.Numbers.{inNumbers}
+use Rattle.host_numbers.specs.Numbers.{inNumbers}
 use borrow.Author.Needs.{needs}
-use Rattle.host.proofs.of_acknowledged.Statement.{statement}
-use Rattle.host.proofs.of_acknowledged.Tie as tie
+use Rattle.host_numbers.proofs.of_acknowledged.Statement.{statement}
+use Rattle.host_numbers.proofs.of_acknowledged.Tie as tie
 
 enum-known-a : tie.Need-enum-known-a
 enum-known-a c = search needs

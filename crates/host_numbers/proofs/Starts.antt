@@ -1,0 +1,14 @@
+-- What a start leaves after its answer. Assumes nothing.
+use mathlib.Core.Path.{_≡_, sym, _∙_, ap}
+use mathlib.Core.List.{[]}
+use Rattle.terms.specs.Answers.{said}
+use Rattle.slots.specs.Answers.{Outcome}
+use Rattle.slots.specs.Start.{started}
+use Rattle.terms.specs.declared.Answer.{Answer}
+use Rattle.slots.specs.declared.Receiver.{Receiver}
+use Rattle.slots.specs.declared.Started.{Started}
+use Rattle.host_numbers.specs.Numbers.{hostedStart}
+
+-- of a start whose answer is known: what a host is told, and the state that it is left
+pub known-start : (before : Receiver) (o : Outcome) (r : Started) (a : Answer) → r .answer ≡ a → started r ≡ o → hostedStart before (record { says = said a; state = r .state; lent = [] }) ≡ hostedStart before o
+known-start before o r a d e = (λ k. hostedStart before (record { says = said (sym d k); state = r .state; lent = [] })) ∙ ap (hostedStart before) e
