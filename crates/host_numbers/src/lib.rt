@@ -75,7 +75,7 @@ pub fn of_given(g: Given) -> Counted
     }
 }
 
-pub fn of_acknowledged(a: Acknowledged) -> Counted
+fn of_acknowledged(a: Acknowledged) -> Counted
     ensures { λ r. ⌜ r ≡ inNumbers (ackSaid a) ⌝ }
 {
     match a {
@@ -90,7 +90,7 @@ pub fn of_acknowledged(a: Acknowledged) -> Counted
     }
 }
 
-pub fn of_span(s: Span) -> Part
+fn of_span(s: Span) -> Part
     ensures { λ r. ⌜ r ≡ partOf s ⌝ }
 {
     Part {
