@@ -12,13 +12,14 @@ use script::registers::Bytes;
 use script::registers::Output;
 use script::registers::Store;
 
-// The topic of a letter: packets, timing, a receiver, or a sender.
+// The topic of a letter: packets, timing, a receiver, a sender's packets, or its state.
 fn topic(letter: u8) -> u8 {
     match letter {
         b'r' | b'd' | b'w' => 0,
         b'x' | b'g' | b'f' => 1,
         b'S' | b'R' | b'B' | b'a' | b't' | b'k' => 2,
-        _ => 3,
+        b'u' | b's' | b'h' => 3,
+        _ => 4,
     }
 }
 
@@ -35,7 +36,8 @@ fn call(
         0 => drive_packets::call(bank, given, out, letter),
         1 => timing::call(bank, letter),
         2 => drive_receiver::call(bank, given, out, received, letter),
-        _ => drive_sender::call(bank, given, out, sent, letter),
+        3 => drive_stored::call(bank, given, out, sent, letter),
+        _ => drive_sender::call(bank, sent, letter),
     }
 }
 

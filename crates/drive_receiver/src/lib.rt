@@ -1,6 +1,7 @@
 // What `drive` calls on a receiver: 'S' starts it, 'R' and 'B' set its state and its store, 'a' accepts, 't' takes, 'k' acknowledges.
 // The state and what a call asks stand in the registers, and its answer goes there.
 use ack::Acknowledged;
+use drive_state::tell;
 use lines::part;
 use receiver::Accepted;
 use script::registers;
@@ -15,8 +16,6 @@ use script::registers::SUM;
 use script::registers::Store;
 use script::sum;
 use slots::Receiver;
-use terms::Answer;
-use terms::Given;
 use terms::SeqNo;
 use terms::StreamId;
 
@@ -64,21 +63,6 @@ fn keep(bank: &mut Bank, r: Receiver) {
     keep_marks(bank, &marks);
 }
 
-// The answers of the calls, here and on a sender.
-pub fn answer(bank: &mut Bank, answer: Answer) {
-    match answer {
-        Answer::Done => registers::answer(bank, 0),
-        Answer::Refused(r) => registers::answer(bank, r.number() as u64),
-    }
-}
-
-pub fn given(bank: &mut Bank, answer: Given) {
-    match answer {
-        Given::Bytes(n) => registers::answer2(bank, 0, n as u64),
-        Given::Refused(r) => registers::answer2(bank, r.number() as u64, 0),
-    }
-}
-
 fn start(bank: &mut Bank, store: &[u8]) {
     let s = SeqNo(registers::word32(bank, 0));
     let slot = registers::word32(bank, 1);
@@ -86,19 +70,13 @@ fn start(bank: &mut Bank, store: &[u8]) {
     let after = done.state;
     let said = done.answer;
     keep(bank, after);
-    answer(bank, said);
+    tell::answer(bank, said);
 }
 
 // The state that the call gives stands in its first three fields, and its marks are in their place already.
 fn set(bank: &mut Bank) {
     registers::copy(bank, 0, RECEIVER, 3);
     bank[COUNT] = 0;
-}
-
-// A store, of a receiver or a sender, is in its place already.
-pub fn set_store(bank: &mut Bank, store: &[u8]) {
-    registers::answer(bank, store.len() as u64);
-    bank[SUM] = sum::checksum(store);
 }
 
 fn accepted(bank: &Bank, payload: &[u8], store: &mut [u8]) -> Accepted {
@@ -112,7 +90,7 @@ fn accept(bank: &mut Bank, payload: &[u8], store: &mut [u8]) {
     let after = done.state;
     let said = done.answer;
     keep(bank, after);
-    answer(bank, said);
+    tell::answer(bank, said);
     bank[SUM] = sum::checksum(store);
 }
 
@@ -122,7 +100,7 @@ fn take(bank: &mut Bank, store: &[u8], out: &mut [u8]) {
     let after = done.state;
     let said = done.answer;
     keep(bank, after);
-    given(bank, said);
+    tell::given(bank, said);
     bank[SUM] = sum::checksum(out);
 }
 
@@ -174,7 +152,7 @@ fn call_to_set(bank: &mut Bank, store: &[u8], letter: u8) {
     match letter {
         b'S' => start(bank, part::front(store, held)),
         b'R' => set(bank),
-        _ => set_store(bank, part::front(store, held)),
+        _ => tell::store(bank, part::front(store, held)),
     }
 }
 

@@ -1,4 +1,6 @@
-// The sender of the registers: its ten numbers, and its 192 places with four numbers each.
+// The sender of the registers: its ten numbers, and its 192 places with four numbers each; and what calls on a receiver or a sender answer there.
+pub mod tell;
+
 use places::Sender;
 use places::Timer;
 use script::registers;

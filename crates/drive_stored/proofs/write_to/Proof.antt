@@ -2,8 +2,8 @@
 use native.Mathlib.Omega.{arith}
 use lib.ListN.{length-take}
 use borrow.Author.Needs.{needs}
-use Rattle.drive_sender.proofs.write_to.Statement.{statement}
-use Rattle.drive_sender.proofs.write_to.Tie as tie
+use Rattle.drive_stored.proofs.write_to.Statement.{statement}
+use Rattle.drive_stored.proofs.write_to.Tie as tie
 
 length-requires : tie.Need-length-requires
 length-requires c κs = search needs
