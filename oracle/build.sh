@@ -17,7 +17,7 @@ for file in packet stream/active; do
 done
 
 # Under `make` rustc would look for make's own job server, which a recipe does not hand down.
-unset MAKEFLAGS
+unset MAKEFLAGS MFLAGS
 
 # Overflow checks stay on, so that a sum of the Rust that leaves its width stops the run and is not taken for an answer.
 ${RUSTC:-rustc} --edition 2021 --crate-name oracle -C opt-level=3 -C overflow-checks=on -o "$out/oracle" oracle/src/main.rs
