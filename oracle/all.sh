@@ -28,6 +28,8 @@ topic 'receive slips'
 topic ack "$seed" 20000
 topic timer "$seed" 1000260
 topic sender "$seed" 20000
+[ "$who" = model ] || exit 0
 head -c 7 crates/drive/stdin >target/oracle/script
-echo 'bad script' >target/oracle/answers
+target/oracle/oracle model answer <target/oracle/script >target/oracle/answers
+grep -q '^bad script$' target/oracle/answers
 keep
