@@ -12,18 +12,18 @@ demo:
 	@echo '== The Rust as given, the same packets =='
 	@target/oracle/oracle lamps
 
-# The tests, two at a time, then the verdict. `rt ci` starts from nothing, and runs `compared` on what `expected` wrote, which is then no longer needed;
+# The tests, two at a time, then the verdict. `rt ci` starts from nothing, and runs `drive_compared` on what `expected` wrote, which is then no longer needed;
 # its last line is 'N passed, 0 failed'.
 test:
 	@$(MAKE) --no-print-directory --jobs=2 --output-sync links expected host
 	@rt ci
-	@rm crates/compared/stdin crates/compared/stdout
+	@rm crates/drive_compared/stdin crates/drive_compared/stdout
 
 # The index of promises leads to what it names.
 links:
 	@tools/links
 
-# The model of document 01 beside the Rust as given, on every script; and the model's answers as what our programs are to answer: `compared` those
+# The model of document 01 beside the Rust as given, on every script; and the model's answers as what our programs are to answer: `drive_compared` those
 # scripts, `drive` its stored one.
 expected:
 	@oracle/build.sh

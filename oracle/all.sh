@@ -1,11 +1,11 @@
 #!/bin/sh
 # oracle/all.sh WHO SEED: every comparison of compare.sh, with WHO's answers. Where WHO is the model, the scripts and its answers, one behind the
-# other, become what the program `compared` is held to; the last script is cut short, which is `bad script`.
+# other, become what the program `drive_compared` is held to; the last script is cut short, which is `bad script`.
 set -eu
 cd "$(dirname "$0")/.."
 who=$1
 seed=$2
-to=crates/compared
+to=crates/drive_compared
 [ "$who" != model ] || rm -f "$to/stdin" "$to/stdout"
 
 keep() {

@@ -1,16 +1,16 @@
 // Reads a script of calls from standard input and answers each with a line: docs/DRIVE.md has the format, and the crate `drive_format` is that format.
 // A call is taken into the registers, made by the crate of its topic, and told from the registers. Two programs are this: `drive`, which is run on a
-// stored script, and `compared`, on all that `make test` compares.
+// stored script, and `drive_compared`, on all that `make test` compares.
 mod timing;
 
 use drive_format::take;
 use drive_format::tell;
-use lines::say;
-use script::input;
-use script::registers::Bank;
-use script::registers::Bytes;
-use script::registers::Output;
-use script::registers::Store;
+use program_lines::say;
+use program_script::input;
+use program_script::registers::Bank;
+use program_script::registers::Bytes;
+use program_script::registers::Output;
+use program_script::registers::Store;
 
 // The topic of a letter: packets, timing, a receiver, a sender's packets, or its state.
 fn topic(letter: u8) -> u8 {

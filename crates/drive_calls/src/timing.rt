@@ -1,6 +1,6 @@
 // The calls 'x', 'g' and 'f': a sample of the round-trip time, and the window's two steps.
-use script::registers;
-use script::registers::Bank;
+use program_script::registers;
+use program_script::registers::Bank;
 use timer::Timing;
 
 // The timing that the call gives: unsampled, or sampled with two numbers.

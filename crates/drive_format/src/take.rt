@@ -1,19 +1,19 @@
 // Takes what a call asks into the registers, field by field as its row of the table says.
 use super::table;
 use super::table::SIZE;
-use script::input;
-use script::registers;
-use script::registers::Bank;
-use script::registers::Bytes;
-use script::registers::FIELDS;
-use script::registers::GIVEN;
-use script::registers::MARKS;
-use script::registers::NACKS;
-use script::registers::Output;
-use script::registers::PLACES;
-use script::registers::RECEIVER_STORE;
-use script::registers::SENDER_STORE;
-use script::registers::Store;
+use program_script::input;
+use program_script::registers;
+use program_script::registers::Bank;
+use program_script::registers::Bytes;
+use program_script::registers::FIELDS;
+use program_script::registers::GIVEN;
+use program_script::registers::MARKS;
+use program_script::registers::NACKS;
+use program_script::registers::Output;
+use program_script::registers::PLACES;
+use program_script::registers::RECEIVER_STORE;
+use program_script::registers::SENDER_STORE;
+use program_script::registers::Store;
 
 // The bytes of a number by its digit.
 fn width(digit: u8) -> u8 {

@@ -2,17 +2,17 @@
 // What puts a part of the line at a place answers the place behind it.
 use super::table;
 use super::table::SIZE;
-use script::output;
-use script::output::Page;
-use script::registers;
-use script::registers::ANSWERS;
-use script::registers::Bank;
-use script::registers::COUNT;
-use script::registers::MARKS;
-use script::registers::PLACES;
-use script::registers::RECEIVER;
-use script::registers::SENDER;
-use script::registers::SUM;
+use program_script::output;
+use program_script::output::Page;
+use program_script::registers;
+use program_script::registers::ANSWERS;
+use program_script::registers::Bank;
+use program_script::registers::COUNT;
+use program_script::registers::MARKS;
+use program_script::registers::PLACES;
+use program_script::registers::RECEIVER;
+use program_script::registers::SENDER;
+use program_script::registers::SUM;
 
 // Whether the numbers from a place on are all 0, width of them.
 fn blank(bank: &Bank, from: usize, width: usize) -> bool {

@@ -1,20 +1,20 @@
 // What `drive` calls on packets: 'r' reads one, 'd' judges a destination, 'w' writes a packet. What each asks stands in the registers, and its answer goes there.
-use lines::part;
-use packet::Packet;
-use packet::Reading;
-use script::registers;
-use script::registers::ANSWERS;
-use script::registers::Bank;
-use script::registers::Bytes;
-use script::registers::COUNT;
-use script::registers::NACKS;
-use script::registers::Output;
-use script::registers::SUM;
-use script::sum;
+use program_lines::part;
+use packet_read::Packet;
+use packet_read::Reading;
+use program_script::registers;
+use program_script::registers::ANSWERS;
+use program_script::registers::Bank;
+use program_script::registers::Bytes;
+use program_script::registers::COUNT;
+use program_script::registers::NACKS;
+use program_script::registers::Output;
+use program_script::registers::SUM;
+use program_script::sum;
 use terms::SeqNo;
 use terms::StreamId;
-use writer::Fields;
-use writer::Writing;
+use packet_write::Fields;
+use packet_write::Writing;
 
 fn wide(x: u16) -> u64 {
     x as u64
@@ -52,14 +52,14 @@ fn places(bank: &mut Bank, p: Packet) {
 
 // A checksum of each part, as the calls for the parts return it.
 fn parts(bank: &mut Bank, packet: &[u8]) {
-    bank[ANSWERS + 18] = sum::checksum(parts::nacks(packet));
-    bank[ANSWERS + 19] = sum::checksum(parts::destination(packet));
-    bank[ANSWERS + 20] = sum::checksum(parts::signature(packet));
-    bank[ANSWERS + 21] = sum::checksum(parts::payload(packet));
+    bank[ANSWERS + 18] = sum::checksum(packet_parts::nacks(packet));
+    bank[ANSWERS + 19] = sum::checksum(packet_parts::destination(packet));
+    bank[ANSWERS + 20] = sum::checksum(packet_parts::signature(packet));
+    bank[ANSWERS + 21] = sum::checksum(packet_parts::payload(packet));
 }
 
 fn read(bank: &mut Bank, packet: &[u8]) {
-    match packet::read(packet) {
+    match packet_read::read(packet) {
         Reading::Refused(r) => registers::answer(bank, r.number() as u64),
         Reading::Read(p) => {
             ids(bank, p);
@@ -71,7 +71,7 @@ fn read(bank: &mut Bank, packet: &[u8]) {
 }
 
 fn destination(bank: &mut Bank, bytes: &[u8]) {
-    if packet::is_destination(bytes) {
+    if packet_read::is_destination(bytes) {
         registers::answer(bank, 1);
     } else {
         registers::answer(bank, 0);
@@ -107,7 +107,7 @@ fn written(bank: &Bank, given: &[u8], out: &mut [u8]) -> Writing {
     let d = registers::length(bank, 8) % 1000000;
     let s = registers::length(bank, 10) % 1000000;
     let p = registers::length(bank, 11);
-    writer::write(
+    packet_write::write(
         fields(bank),
         part::front32(&nacks, n),
         part::front(given, d),

@@ -1,21 +1,21 @@
 // What `drive` calls on a receiver: 'S' starts it, 'R' and 'B' set its state and its store, 'a' accepts, 't' takes, 'k' acknowledges.
 // The state and what a call asks stand in the registers, and its answer goes there.
-use ack::Acknowledged;
+use receiver_ack::Acknowledged;
 use drive_state::tell;
-use lines::part;
-use receiver::Accepted;
-use script::registers;
-use script::registers::Bank;
-use script::registers::Bytes;
-use script::registers::COUNT;
-use script::registers::MARKS;
-use script::registers::Output;
-use script::registers::RECEIVER;
-use script::registers::RECEIVER_STORE;
-use script::registers::SUM;
-use script::registers::Store;
-use script::sum;
-use slots::Receiver;
+use program_lines::part;
+use receiver_calls::Accepted;
+use program_script::registers;
+use program_script::registers::Bank;
+use program_script::registers::Bytes;
+use program_script::registers::COUNT;
+use program_script::registers::MARKS;
+use program_script::registers::Output;
+use program_script::registers::RECEIVER;
+use program_script::registers::RECEIVER_STORE;
+use program_script::registers::SUM;
+use program_script::registers::Store;
+use program_script::sum;
+use receiver_state::Receiver;
 use terms::SeqNo;
 use terms::StreamId;
 
@@ -66,7 +66,7 @@ fn keep(bank: &mut Bank, r: Receiver) {
 fn start(bank: &mut Bank, store: &[u8]) {
     let s = SeqNo(registers::word32(bank, 0));
     let slot = registers::word32(bank, 1);
-    let done = slots::start(s, slot, store);
+    let done = receiver_state::start(s, slot, store);
     let after = done.state;
     let said = done.answer;
     keep(bank, after);
@@ -82,7 +82,7 @@ fn set(bank: &mut Bank) {
 fn accepted(bank: &Bank, payload: &[u8], store: &mut [u8]) -> Accepted {
     let number = SeqNo(registers::word32(bank, 0));
     let r = state(bank);
-    receiver::accept(r, number, payload, store)
+    receiver_calls::accept(r, number, payload, store)
 }
 
 fn accept(bank: &mut Bank, payload: &[u8], store: &mut [u8]) {
@@ -96,7 +96,7 @@ fn accept(bank: &mut Bank, payload: &[u8], store: &mut [u8]) {
 
 fn take(bank: &mut Bank, store: &[u8], out: &mut [u8]) {
     let r = state(bank);
-    let done = receiver::take(r, store, out);
+    let done = receiver_calls::take(r, store, out);
     let after = done.state;
     let said = done.answer;
     keep(bank, after);
@@ -108,7 +108,7 @@ fn acknowledged(bank: &Bank, out: &mut [u8]) -> Acknowledged {
     let send = StreamId(registers::word32(bank, 0));
     let recv = StreamId(registers::word32(bank, 1));
     let r = state(bank);
-    ack::acknowledge(r, send, recv, out)
+    receiver_ack::acknowledge(r, send, recv, out)
 }
 
 fn acknowledge(bank: &mut Bank, out: &mut [u8]) {

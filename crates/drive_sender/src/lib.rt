@@ -1,20 +1,20 @@
 // What `drive` calls on a sender's state: 'Z' starts it, 'P' and 'D' set its state and its store, 'v' judges the state, 'c' takes acks, 'e' resends.
 // The state and what a call asks stand in the registers, and its answer goes there. The calls that move packets are in `drive_stored`.
 use drive_state::tell;
-use lines::part;
-use script::registers;
-use script::registers::Bank;
-use script::registers::COUNT;
-use script::registers::SENDER;
-use script::registers::SENDER_STORE;
-use script::registers::Store;
+use program_lines::part;
+use program_script::registers;
+use program_script::registers::Bank;
+use program_script::registers::COUNT;
+use program_script::registers::SENDER;
+use program_script::registers::SENDER_STORE;
+use program_script::registers::Store;
 use terms::SeqNo;
 
 fn start(bank: &mut Bank, store: &[u8]) {
     let first = SeqNo(registers::word32(bank, 0));
     let chunk = registers::word32(bank, 1);
     let count = registers::word32(bank, 2);
-    let done = places::start(first, chunk, count, store);
+    let done = sender_state::start(first, chunk, count, store);
     let after = done.state;
     let said = done.answer;
     drive_state::keep(bank, after);
@@ -32,7 +32,7 @@ fn set(bank: &mut Bank) {
 
 fn valid(bank: &mut Bank) {
     let s = drive_state::given(bank);
-    if rules::valid(s) {
+    if sender_check::valid(s) {
         registers::answer(bank, 1);
     } else {
         registers::answer(bank, 0);
@@ -45,7 +45,7 @@ fn acks(bank: &mut Bank) {
     let clock = registers::value(bank, 2);
     let nacks = registers::nacks(bank);
     let s = drive_state::given(bank);
-    let done = acks::acks(s, through, part::front32(&nacks, n), clock);
+    let done = sender_acks::acks(s, through, part::front32(&nacks, n), clock);
     let after = done.state;
     let said = done.answer;
     drive_state::keep(bank, after);
@@ -56,7 +56,7 @@ fn resend(bank: &mut Bank) {
     let clock = registers::value(bank, 0);
     let path = registers::value(bank, 1) != 0;
     let s = drive_state::given(bank);
-    let done = resend::resend(s, clock, path);
+    let done = sender_resend::resend(s, clock, path);
     let after = done.state;
     let said = done.answer;
     drive_state::keep(bank, after);

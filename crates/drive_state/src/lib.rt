@@ -1,12 +1,12 @@
 // The sender of the registers: its ten numbers, and its 192 places with four numbers each; and what calls on a receiver or a sender answer there.
 pub mod tell;
 
-use places::Sender;
-use places::Timer;
-use script::registers;
-use script::registers::Bank;
-use script::registers::PLACES;
-use script::registers::SENDER;
+use sender_state::Sender;
+use sender_state::Timer;
+use program_script::registers;
+use program_script::registers::Bank;
+use program_script::registers::PLACES;
+use program_script::registers::SENDER;
 use terms::SeqNo;
 use timer::Timing;
 

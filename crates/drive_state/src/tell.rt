@@ -1,9 +1,9 @@
 // What the calls on a receiver or a sender answer, in the registers.
-use places::Tally;
-use script::registers;
-use script::registers::Bank;
-use script::registers::SUM;
-use script::sum;
+use sender_state::Tally;
+use program_script::registers;
+use program_script::registers::Bank;
+use program_script::registers::SUM;
+use program_script::sum;
 use terms::Answer;
 use terms::Given;
 

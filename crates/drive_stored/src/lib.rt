@@ -1,17 +1,17 @@
 // What `drive` calls on a sender and its packets: 'u' submits, 's' sends, 'h' fetches. The state and what a call asks stand in the registers, and its
 // answer goes there.
 use drive_state::tell;
-use lines::part;
-use script::registers;
-use script::registers::Bank;
-use script::registers::Bytes;
-use script::registers::Output;
-use script::registers::SENDER_STORE;
-use script::registers::SUM;
-use script::registers::Store;
-use script::sum;
-use sender::Departure;
-use submit::Submitted;
+use program_lines::part;
+use program_script::registers;
+use program_script::registers::Bank;
+use program_script::registers::Bytes;
+use program_script::registers::Output;
+use program_script::registers::SENDER_STORE;
+use program_script::registers::SUM;
+use program_script::registers::Store;
+use program_script::sum;
+use sender_send::Departure;
+use sender_submit::Submitted;
 use terms::StreamId;
 
 // Submits with the receiver of the registers.
@@ -20,7 +20,7 @@ fn submitted(bank: &Bank, bytes: &[u8], store: &mut [u8]) -> Submitted {
     let recv = StreamId(registers::word32(bank, 1));
     let s = drive_state::given(bank);
     let r = drive_receiver::state(bank);
-    submit::submit(s, r, send, recv, bytes, store)
+    sender_submit::submit(s, r, send, recv, bytes, store)
 }
 
 fn submit(bank: &mut Bank, bytes: &[u8], store: &mut [u8]) {
@@ -44,7 +44,7 @@ fn departure(bank: &mut Bank, answer: Departure) {
 fn send(bank: &mut Bank, store: &[u8], out: &mut [u8]) {
     let clock = registers::value(bank, 0);
     let s = drive_state::given(bank);
-    let done = sender::send(s, clock, store, out);
+    let done = sender_send::send(s, clock, store, out);
     let after = done.state;
     let said = done.answer;
     drive_state::keep(bank, after);
@@ -55,7 +55,7 @@ fn send(bank: &mut Bank, store: &[u8], out: &mut [u8]) {
 fn fetch(bank: &mut Bank, store: &[u8], out: &mut [u8]) {
     let rank = registers::word32(bank, 0);
     let s = drive_state::given(bank);
-    let said = sender::fetch(s, rank, store, out);
+    let said = sender_send::fetch(s, rank, store, out);
     tell::given(bank, said);
     bank[SUM] = sum::checksum(out);
 }

@@ -2,11 +2,11 @@
 use mathlib.Core.Path.{_≡_, sym, _∙_, ap}
 use mathlib.Core.List.{[]}
 use Rattle.terms.specs.Answers.{said}
-use Rattle.slots.specs.Answers.{Outcome}
-use Rattle.slots.specs.Start.{started}
+use Rattle.receiver_state.specs.Answers.{Outcome}
+use Rattle.receiver_state.specs.Start.{started}
 use Rattle.terms.specs.declared.Answer.{Answer}
-use Rattle.slots.specs.declared.Receiver.{Receiver}
-use Rattle.slots.specs.declared.Started.{Started}
+use Rattle.receiver_state.specs.declared.Receiver.{Receiver}
+use Rattle.receiver_state.specs.declared.Started.{Started}
 use Rattle.host_numbers.specs.Numbers.{hostedStart}
 
 -- of a start whose answer is known: what a host is told, and the state that it is left

@@ -1,6 +1,6 @@
 -- A packet as it is read, in numbers alone.
-use Rattle.packet.specs.Reading.{Said}
-use Rattle.packet.specs.declared.Span.{Span}
+use Rattle.packet_read.specs.Reading.{Said}
+use Rattle.packet_read.specs.declared.Span.{Span}
 use Rattle.host_numbers.specs.declared.Part.{Part}
 use Rattle.host_numbers.specs.declared.Fields.{Fields}
 

@@ -2,9 +2,9 @@
 use Prim.Native.Nat.{ℕ}
 use mathlib.Core.List.{List, [], _∷_}
 use Rattle.terms.specs.Answers.{Said, refusal, values, _unlessRefused_else_}
-use Rattle.slots.specs.Answers.{Outcome}
-use Rattle.slots.specs.declared.Receiver.{Receiver}
-use Rattle.ack.specs.Acknowledge.{Acknowledges}
+use Rattle.receiver_state.specs.Answers.{Outcome}
+use Rattle.receiver_state.specs.declared.Receiver.{Receiver}
+use Rattle.receiver_ack.specs.Acknowledge.{Acknowledges}
 use Rattle.host_numbers.specs.declared.Counted.{Counted}
 
 abbrev pub firstOr0 : List ℕ → ℕ

@@ -1,17 +1,17 @@
 // What the calls of the receiving half give a host in C, which knows numbers and no enum: each answer in numbers, and a start and an
-// acknowledgement on a state by value. A refusal is document 01's number, and 0 is none. The exported calls are in `host`.
+// acknowledgement on a state by value. A refusal is document 01's number, and 0 is none. The exported calls are in `host_library`.
 ghost use mathlib.Core.Path.{_≡_};
 ghost use lib.ListN.{length};
-ghost use Rattle.packet.specs.Reading.{nothing, answered as readAs};
+ghost use Rattle.packet_read.specs.Reading.{nothing, answered as readAs};
 ghost use Rattle.terms.specs.Answers.{said, saidOf};
-ghost use Rattle.slots.specs.Start.{startOf};
-ghost use Rattle.ack.specs.Acknowledge.{said as ackSaid, acknowledgeOf};
+ghost use Rattle.receiver_state.specs.Start.{startOf};
+ghost use Rattle.receiver_ack.specs.Acknowledge.{said as ackSaid, acknowledgeOf};
 ghost use Rattle.host_numbers.specs.Numbers.{inNumbers, hostedStart, begun, hostedAck, wrote};
 ghost use Rattle.host_numbers.specs.Fields.{partOf, fieldsOf};
-use ack::Acknowledged;
-use packet::Packet;
-use packet::Span;
-use slots::Receiver;
+use receiver_ack::Acknowledged;
+use packet_read::Packet;
+use packet_read::Span;
+use receiver_state::Receiver;
 use terms::Answer;
 use terms::Given;
 use terms::SeqNo;
@@ -159,7 +159,7 @@ pub fn begin(r: Receiver, s: u32, slot: u32, store: &[u8]) -> Begun
     ensures { λ b. ⌜ begun (b .refusal) (b .state) ≡ hostedStart r (startOf (record { 0 = s }) slot (length (now (store .entry)))) ⌝ }
 {
     let after = SeqNo(s);
-    let started = slots::start(after, slot, store);
+    let started = receiver_state::start(after, slot, store);
     let answer = started.answer;
     let state = started.state;
     match answer {
@@ -179,6 +179,6 @@ pub fn acknowledgement(r: Receiver, send: u32, recv: u32, output: &mut [u8]) -> 
 {
     let to = StreamId(send);
     let from = StreamId(recv);
-    let answer = ack::acknowledge(r, to, from, output);
+    let answer = receiver_ack::acknowledge(r, to, from, output);
     of_acknowledged(answer)
 }

@@ -1,5 +1,5 @@
 // The image, made up by a formula, and its pieces.
-use lines::part;
+use program_lines::part;
 
 pub type Image = [u8; 1000];
 

@@ -3,12 +3,12 @@ use super::image::Image;
 use super::sender;
 use super::sender::Wire;
 use super::tell;
-use ack::Acknowledged;
-use lines::part;
-use lines::say;
-use packet::Reading;
-use receiver::Taken;
-use slots::Receiver;
+use receiver_ack::Acknowledged;
+use program_lines::part;
+use program_lines::say;
+use packet_read::Reading;
+use receiver_calls::Taken;
+use receiver_state::Receiver;
 use terms::Answer;
 use terms::Given;
 use terms::SeqNo;
@@ -31,7 +31,7 @@ struct Step {
 
 pub fn start(store: &Store) -> Lamp {
     let before_all = SeqNo(0);
-    let started = slots::start(before_all, 128, store);
+    let started = receiver_state::start(before_all, 128, store);
     let fresh = started.state;
     Lamp {
         receiver: fresh,
@@ -42,9 +42,9 @@ pub fn start(store: &Store) -> Lamp {
 // take, into the rest of the image.
 fn take_at(shown: &mut [u8], at: usize, r: Receiver, store: &[u8]) -> Taken {
     if at > shown.len() {
-        return receiver::take(r, store, shown);
+        return receiver_calls::take(r, store, shown);
     }
-    receiver::take(r, store, &mut shown[at..])
+    receiver_calls::take(r, store, &mut shown[at..])
 }
 
 // A sum that fits, whatever the numbers.
@@ -116,7 +116,7 @@ fn acknowledge(lamp: Lamp) {
     let r = lamp.receiver;
     let to = StreamId(sender::SENDER_ID);
     let from = StreamId(sender::LAMP_ID);
-    match ack::acknowledge(r, to, from, &mut out) {
+    match receiver_ack::acknowledge(r, to, from, &mut out) {
         Acknowledged::Written(n) => tell::acknowledgement(part::front(&out, n)),
         Acknowledged::Refused(why) => {
             say::text(b"  acknowledged");
@@ -129,7 +129,7 @@ fn acknowledge(lamp: Lamp) {
 fn accept(lamp: Lamp, number: SeqNo, payload: &[u8], store: &mut Store, shown: &mut Image) -> Lamp {
     let r = lamp.receiver;
     let filled = lamp.filled;
-    let done = receiver::accept(r, number, payload, store);
+    let done = receiver_calls::accept(r, number, payload, store);
     let after = done.state;
     let answer = done.answer;
     match answer {
@@ -159,7 +159,7 @@ pub fn receive(
     shown: &mut Image,
 ) -> Lamp {
     let bytes = part::front(wire, n);
-    match packet::read(bytes) {
+    match packet_read::read(bytes) {
         Reading::Refused(why) => {
             say::text(b"bytes arrive");
             tell::refused(why);
@@ -168,7 +168,7 @@ pub fn receive(
         Reading::Read(p) => {
             tell::packet(p, how);
             let number = p.seq_nro;
-            accept(lamp, number, parts::payload(bytes), store, shown)
+            accept(lamp, number, packet_parts::payload(bytes), store, shown)
         }
     }
 }

@@ -7,8 +7,8 @@ mod tell;
 use image::Image;
 use lamp::Lamp;
 use lamp::Store;
-use lines::part;
-use lines::say;
+use program_lines::part;
+use program_lines::say;
 
 // A packet of the image arrives.
 fn arrives(

@@ -1,8 +1,8 @@
 // The sender's side: a packet with its number and its payload.
 use terms::SeqNo;
 use terms::StreamId;
-use writer::Fields;
-use writer::Writing;
+use packet_write::Fields;
+use packet_write::Writing;
 
 // The stream ids that the lamp and the sender chose.
 pub const LAMP_ID: u32 = 16909060;
@@ -32,7 +32,7 @@ fn fields(number: u32) -> Fields {
 // Writes the packet, and answers its length.
 pub fn send(number: u32, payload: &[u8], out: &mut Wire) -> usize {
     let none = [0u32; 0];
-    match writer::write(fields(number), &none, b"", b"", payload, out) {
+    match packet_write::write(fields(number), &none, b"", b"", payload, out) {
         Writing::Written(length, _) => length,
         Writing::Refused(_) => 0,
     }

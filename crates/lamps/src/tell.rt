@@ -1,7 +1,7 @@
 // What happens, in words.
-use lines::say;
-use packet::Packet;
-use packet::Reading;
+use program_lines::say;
+use packet_read::Packet;
+use packet_read::Reading;
 use terms::Refusal;
 
 fn why(number: u32) {
@@ -58,7 +58,7 @@ fn numbers(nacks: &[u8]) {
 
 // An acknowledgement that names missing numbers, as our own reader reads it.
 pub fn acknowledgement(bytes: &[u8]) {
-    let Reading::Read(p) = packet::read(bytes) else {
+    let Reading::Read(p) = packet_read::read(bytes) else {
         return;
     };
     let nacks = p.nacks;
@@ -67,6 +67,6 @@ pub fn acknowledgement(bytes: &[u8]) {
     }
     say::named(b"  acknowledged: ack-through", p.ack_through.0 as u64);
     say::text(b", NACKs");
-    numbers(parts::nacks(bytes));
+    numbers(packet_parts::nacks(bytes));
     say::text(b"\n");
 }

@@ -4,10 +4,10 @@ mod packets;
 mod same;
 mod tally;
 
-use lines::part;
-use lines::say;
+use program_lines::part;
+use program_lines::say;
 use packets::Payload;
-use slots::Receiver;
+use receiver_state::Receiver;
 use tally::Tally;
 use terms::SeqNo;
 
@@ -29,7 +29,7 @@ fn accept(run: Run, turn: u32, bytes: &Payload, mine: &mut Store, theirs: &mut S
     let here = run.held;
     let there = run.by_value;
     let a = held::accept(here, number, payload, mine);
-    let b = receiver::accept(there, number, payload, theirs);
+    let b = receiver_calls::accept(there, number, payload, theirs);
     let answer = a.answer;
     let other = b.answer;
     let state = a.state;
@@ -59,7 +59,7 @@ fn take(run: Run, mine: &Store, theirs: &Store) -> Run {
     let here = run.held;
     let there = run.by_value;
     let a = held::take(here, mine, &mut out);
-    let b = receiver::take(there, theirs, &mut output);
+    let b = receiver_calls::take(there, theirs, &mut output);
     let given = a.answer;
     let other = b.answer;
     let state = a.state;
@@ -126,7 +126,7 @@ fn report(done: Run, mine: &Store) {
 fn main() {
     let mut mine = [0u8; 8192];
     let mut theirs = [0u8; 8192];
-    let started = slots::start(SeqNo(0), 16, &mine);
+    let started = receiver_state::start(SeqNo(0), 16, &mine);
     let fresh = started.state;
     let nothing = tally::empty();
     let begun = Run {

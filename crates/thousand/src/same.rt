@@ -1,5 +1,5 @@
 // Whether two answers say the same, and two states are the same.
-use slots::Receiver;
+use receiver_state::Receiver;
 use terms::Answer;
 use terms::Given;
 

@@ -1,5 +1,5 @@
 // What the packets did, counted.
-use lines::say;
+use program_lines::say;
 
 pub struct Tally {
     // how often each refusal was given to an accept, and at 0 how often none

@@ -1,12 +1,12 @@
 // The packets that i2pd made: each is read, and every field compared with what i2pd's accessors said of it.
-use limits::again;
-use lines::line;
-use lines::line::Values;
-use lines::part;
-use lines::say;
-use packet::Packet;
-use packet::Reading;
-use packet::Span;
+use program_limits::again;
+use program_lines::line;
+use program_lines::line::Values;
+use program_lines::part;
+use program_lines::say;
+use packet_read::Packet;
+use packet_read::Reading;
+use packet_read::Span;
 ghost use Prim.Native.Nat.{_≤_, _<_};
 
 // The values by their place in a line.
@@ -210,12 +210,12 @@ fn parts(at: u64, v: &Values, bytes: &[u8]) -> u64
     ensures { λ r. ⌜ r ≤ 4 ⌝ }
 {
     let count = v[NACKS] % 256 * 4;
-    let nacks = part_differs(at, b"nacks", bytes, parts::nacks(bytes), 17, count);
+    let nacks = part_differs(at, b"nacks", bytes, packet_parts::nacks(bytes), 17, count);
     let dest = part_differs(
         at,
         b"destination",
         bytes,
-        parts::destination(bytes),
+        packet_parts::destination(bytes),
         v[DEST_AT],
         v[DEST_LEN],
     );
@@ -223,7 +223,7 @@ fn parts(at: u64, v: &Values, bytes: &[u8]) -> u64
         at,
         b"signature",
         bytes,
-        parts::signature(bytes),
+        packet_parts::signature(bytes),
         v[SIG_AT],
         v[SIG_LEN],
     );
@@ -231,7 +231,7 @@ fn parts(at: u64, v: &Values, bytes: &[u8]) -> u64
         at,
         b"payload",
         bytes,
-        parts::payload(bytes),
+        packet_parts::payload(bytes),
         v[PAYLOAD_AT],
         v[PAYLOAD_LEN],
     );
@@ -259,7 +259,7 @@ fn fields(at: u64, v: &Values, p: Packet) -> u64
 
 // How many things differ from what is expected of the line.
 fn wrongs(at: u64, v: &Values, bytes: &[u8], wanted: u64) -> u64 {
-    match packet::read(bytes) {
+    match packet_read::read(bytes) {
         Reading::Refused(r) => differs(at, b"refusal", wanted, id(r.number())),
         Reading::Read(p) => {
             if wanted != 0 {

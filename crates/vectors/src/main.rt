@@ -23,5 +23,5 @@ fn main() {
     let made = load(b"i2pd-packets.txt", &mut text);
     i2pd::report(&text[..made]);
     let shaped = load(b"limits.txt", &mut text);
-    limits::report(&text[..shaped]);
+    program_limits::report(&text[..shaped]);
 }

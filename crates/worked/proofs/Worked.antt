@@ -1,20 +1,20 @@
 -- Every line of the table holds: the definitions compute it. Assumes nothing.
 use mathlib.Core.Bool.{true}
 use mathlib.Core.Path.{_≡_, refl}
-use Rattle.writer.specs.Writing.{packetBytes}
-use Rattle.slots.specs.Rules as R
-use Rattle.slots.specs.Start.{startSaid}
-use Rattle.receiver.specs.Accept.{acceptSaid, accepts}
-use Rattle.receiver.specs.Take.{takeSaid, takes}
-use Rattle.ack.specs.Missing.{missingFrom}
-use Rattle.ack.specs.Fields.{fieldsFrom, nacksFrom}
-use Rattle.ack.specs.Acknowledge.{plainAck, acknowledgeSaid, acknowledges}
+use Rattle.packet_write.specs.Writing.{packetBytes}
+use Rattle.receiver_state.specs.Rules as R
+use Rattle.receiver_state.specs.Start.{startSaid}
+use Rattle.receiver_calls.specs.Accept.{acceptSaid, accepts}
+use Rattle.receiver_calls.specs.Take.{takeSaid, takes}
+use Rattle.receiver_ack.specs.Missing.{missingFrom}
+use Rattle.receiver_ack.specs.Fields.{fieldsFrom, nacksFrom}
+use Rattle.receiver_ack.specs.Acknowledge.{plainAck, acknowledgeSaid, acknowledges}
 use Rattle.timer.specs.Timer.{sampledOf, rtoOf, timingFits}
 use Rattle.timer.specs.Window.{grownOf, fallenOf}
-use Rattle.places.specs.Rules as P
-use Rattle.places.specs.Numbers.{run}
-use Rattle.places.specs.Rules.{clockWrong}
-use Rattle.resend.specs.Resend.{isDue, resendRefusal, resendOf}
+use Rattle.sender_state.specs.Rules as P
+use Rattle.sender_state.specs.Numbers.{run}
+use Rattle.sender_state.specs.Rules.{clockWrong}
+use Rattle.sender_resend.specs.Resend.{isDue, resendRefusal, resendOf}
 use Rattle.worked.specs.Lines.{holds, allHold}
 use Rattle.worked.specs.Table.{table}
 

@@ -5,17 +5,17 @@ use mathlib.Core.List.{List, [], _∷_, _++_}
 use lib.Dec.{eqb}
 use lib.ListN.{length, replicate}
 use Rattle.terms.specs.Answers.{Said, refusal, values}
-use Rattle.delivery.specs.Runs.{Call, Event, begun, eventsOf}
-use Rattle.delivery.specs.History.{Piece, takenIn}
+use Rattle.receiver_runs.specs.Runs.{Call, Event, begun, eventsOf}
+use Rattle.receiver_runs.specs.History.{Piece, takenIn}
 use Rattle.timer.specs.Timer.{sampledOf, rtoOf}
 use Rattle.timer.specs.Window.{grownOf}
 use Rattle.timer.specs.declared.Timing.{Timing}
 use Rattle.timer.specs.declared.Timing.the-variants as G
-use Rattle.places.specs.Rules.{stateOf}
-use Rattle.places.specs.Answers.{Outcome}
-use Rattle.places.specs.declared.Sender.{Sender}
-use Rattle.places.specs.declared.Timer.the-variants as T
-use Rattle.resend.specs.Resend.{resendOf}
+use Rattle.sender_state.specs.Rules.{stateOf}
+use Rattle.sender_state.specs.Answers.{Outcome}
+use Rattle.sender_state.specs.declared.Sender.{Sender}
+use Rattle.sender_state.specs.declared.Timer.the-variants as T
+use Rattle.sender_resend.specs.Resend.{resendOf}
 
 pub data Line : Type 0 where
   -- a receiver is started after s; then these calls: what the last one answers, and the output as it leaves it

@@ -3,8 +3,8 @@ use Prim.Native.Nat.{ℕ, zero, suc, _%_}
 use mathlib.Core.List.{List, [], _∷_, _++_}
 use lib.ListN.{replicate}
 use Rattle.terms.specs.Answers.{refusal, values}
-use Rattle.delivery.specs.Runs.{Call, accept, take, acknowledge}
-use Rattle.delivery.specs.History.{Piece}
+use Rattle.receiver_runs.specs.Runs.{Call, accept, take, acknowledge}
+use Rattle.receiver_runs.specs.History.{Piece}
 use Rattle.worked.specs.Lines.{Line, receives, hands, grows, smooths, resends}
 
 -- a packet of the number n with one byte, the number's last one, and with none

@@ -1,7 +1,7 @@
 -- `host_numbers::of_acknowledged` meets its contract: each case of the answer has its numbers. Assumes nothing.
 use mathlib.Core.Path.{sym, _∙_, ap}
-use Rattle.ack.specs.Acknowledge.{said}
-use Rattle.ack.specs.declared.Acknowledged.{Acknowledged}
+use Rattle.receiver_ack.specs.Acknowledge.{said}
+use Rattle.receiver_ack.specs.declared.Acknowledged.{Acknowledged}
 use Rattle.host_numbers.specs.Numbers.{inNumbers}
 use borrow.Author.Needs.{needs}
 use Rattle.host_numbers.proofs.of_acknowledged.Statement.{statement}

@@ -45,23 +45,23 @@ use denote.Exit.{yes}
 use Rattle.terms.specs.declared.SeqNo.{SeqNo}
 use Rattle.terms.proofs.SeqNo as Q
 use Rattle.terms.proofs.SeqNo.Laws as Q′
-use Rattle.slots.specs.declared.Receiver.{Receiver}
-use Rattle.receiver.specs.declared.Accepted.{Accepted}
+use Rattle.receiver_state.specs.declared.Receiver.{Receiver}
+use Rattle.receiver_calls.specs.declared.Accepted.{Accepted}
 use Rattle.terms.specs.declared.Answer.{Answer}
-use Rattle.receiver.specs.Accept.{acceptOf}
-use Rattle.slots.proofs.Receiver as T
-use Rattle.slots.proofs.Receiver.Laws as T′
-use Rattle.receiver.proofs.Accepted as P
-use Rattle.receiver.proofs.Accepted.Laws as P′
+use Rattle.receiver_calls.specs.Accept.{acceptOf}
+use Rattle.receiver_state.proofs.Receiver as T
+use Rattle.receiver_state.proofs.Receiver.Laws as T′
+use Rattle.receiver_calls.proofs.Accepted as P
+use Rattle.receiver_calls.proofs.Accepted.Laws as P′
 use Rattle.terms.proofs.Answer as N
 use Rattle.terms.proofs.Answer.Laws as N′
-use Rattle.inplace.specs.Behind.{acceptedBehind}
-use Rattle.inplace.proofs.InMem.{packs, unpacks}
-use Rattle.inplace.proofs.State.{vals}
-use Rattle.inplace.proofs.accept as core
-use Rattle.inplace.proofs.accept.Symbol as core-def
-use Rattle.inplace.proofs.accept.Symbol.{name as #inplace·accept}
-use Rattle.inplace.proofs.accept.Met as core-thm
+use Rattle.receiver_in_place.specs.Behind.{acceptedBehind}
+use Rattle.receiver_in_place.proofs.InMem.{packs, unpacks}
+use Rattle.receiver_in_place.proofs.State.{vals}
+use Rattle.receiver_in_place.proofs.accept as core
+use Rattle.receiver_in_place.proofs.accept.Symbol as core-def
+use Rattle.receiver_in_place.proofs.accept.Symbol.{name as #inplace·accept}
+use Rattle.receiver_in_place.proofs.accept.Met as core-thm
 use Rattle.thousand.proofs.held.accept.Key.{name as #thousand·held·accept}
 use Rattle.thousand.proofs.held.accept as f
 use Rattle.thousand.proofs.held.accept.Statement as stated

@@ -42,23 +42,23 @@ use denote.Triple.Clauses.{ensured, lasts}
 use denote.Triple.Table.{entered, cited}
 use denote.Triple.Walked.{says, Stays, stay-dropped, gave-slice, walkOf, goes-dropped, goes-gave-slice, Walks, ends-at, walked, walk-meets}
 use denote.Exit.{yes}
-use Rattle.slots.specs.declared.Receiver.{Receiver}
-use Rattle.receiver.specs.declared.Taken.{Taken}
+use Rattle.receiver_state.specs.declared.Receiver.{Receiver}
+use Rattle.receiver_calls.specs.declared.Taken.{Taken}
 use Rattle.terms.specs.declared.Given.{Given as Answer}
-use Rattle.receiver.specs.Take.{takeOf}
-use Rattle.slots.proofs.Receiver as T
-use Rattle.slots.proofs.Receiver.Laws as T′
-use Rattle.receiver.proofs.Taken as P
-use Rattle.receiver.proofs.Taken.Laws as P′
+use Rattle.receiver_calls.specs.Take.{takeOf}
+use Rattle.receiver_state.proofs.Receiver as T
+use Rattle.receiver_state.proofs.Receiver.Laws as T′
+use Rattle.receiver_calls.proofs.Taken as P
+use Rattle.receiver_calls.proofs.Taken.Laws as P′
 use Rattle.terms.proofs.Given as N
 use Rattle.terms.proofs.Given.Laws as N′
-use Rattle.inplace.specs.Behind.{tookBehind}
-use Rattle.inplace.proofs.InMem.{packs, unpacks}
-use Rattle.inplace.proofs.State.{vals}
-use Rattle.inplace.proofs.take as core
-use Rattle.inplace.proofs.take.Symbol as core-def
-use Rattle.inplace.proofs.take.Symbol.{name as #inplace·take}
-use Rattle.inplace.proofs.take.Met as core-thm
+use Rattle.receiver_in_place.specs.Behind.{tookBehind}
+use Rattle.receiver_in_place.proofs.InMem.{packs, unpacks}
+use Rattle.receiver_in_place.proofs.State.{vals}
+use Rattle.receiver_in_place.proofs.take as core
+use Rattle.receiver_in_place.proofs.take.Symbol as core-def
+use Rattle.receiver_in_place.proofs.take.Symbol.{name as #inplace·take}
+use Rattle.receiver_in_place.proofs.take.Met as core-thm
 use Rattle.thousand.proofs.held.take.Key.{name as #thousand·held·take}
 use Rattle.thousand.proofs.held.take as f
 use Rattle.thousand.proofs.held.take.Statement as stated

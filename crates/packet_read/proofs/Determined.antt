@@ -1,0 +1,37 @@
+-- Each promise of `packet_read` allows one result only. Assumes nothing.
+use Prim.Native.Nat.{ℕ}
+use mathlib.Core.Path.{_≡_, ap}
+use mathlib.Core.Bool.{Bool}
+use mathlib.Core.List.{List}
+use native.Mathlib.Omega.{arith}
+use Rattle.terms.specs.Ladder.{_when_else_}
+use Rattle.terms.proofs.Numbers.{number-one, number-some}
+use Rattle.terms.proofs.Determined.{determined}
+use Rattle.packet_read.specs.Destination.{isDestination}
+use Rattle.packet_read.specs.Reading.{Said, said, readOf}
+use Rattle.packet_read.specs.declared.Packet.{Packet}
+use Rattle.packet_read.specs.declared.Reading.{Reading}
+use Rattle.packet_read.specs.declared.Reading.the-variants as R
+
+abbrev refusal-of : Said → ℕ
+refusal-of s = s .refusal
+
+abbrev values-of : Said → Packet
+values-of s = s .values
+
+-- two answers that say the same are the same
+pub said-one : (a b : Reading) → said a ≡ said b → a ≡ b
+said-one (R.Refused q) (R.Refused r) e = ap R.Refused (number-one q r (ap refusal-of e))
+said-one (R.Refused q) (R.Read p) e = absurd (omega (arith, number-some q, ap refusal-of e))
+said-one (R.Read p) (R.Refused r) e = absurd (omega (arith, number-some r, ap refusal-of e))
+said-one (R.Read p) (R.Read q) e = ap R.Read (ap values-of e)
+
+pub read-determined : (packet : List ℕ) (a b : Reading) → said a ≡ readOf packet → said b ≡ readOf packet → a ≡ b
+read-determined packet a b p q = said-one a b (determined p q)
+
+pub is-destination-determined : (bytes : List ℕ) (a b : Bool) → a ≡ isDestination bytes → b ≡ isDestination bytes → a ≡ b
+is-destination-determined bytes a b p q = determined p q
+
+-- of the layer below, the one that asks nothing
+pub size-if-determined : (there : Bool) (size a b : ℕ) → a ≡ (size when there else 0) → b ≡ (size when there else 0) → a ≡ b
+size-if-determined there size a b p q = determined p q

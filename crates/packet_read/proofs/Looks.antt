@@ -1,0 +1,148 @@
+-- Reading looks at nothing else: what is read follows from the packet's length and its bytes up to the end of its option area, since
+-- each number that is looked at lies before that end. So the payload's bytes do not matter to the fields. Assumes nothing.
+use Prim.Native.Nat.{ℕ, zero, suc, _+_, _-_, _*_, _≤_}
+use mathlib.Core.Path.{_≡_, refl, sym, _∙_, ap}
+use mathlib.Core.Bool.{Bool, true, false, _&&_, not}
+use mathlib.Core.List.{List, [], _∷_, _++_}
+use native.Mathlib.Nat.{zero-add, suc-add}
+use native.Mathlib.Omega.{arith}
+use borrow.Author.Tests.{ltb-false}
+use lib.Dec.{ltb, eqb}
+use lib.ListN.{length, take, drop, length-append, length-drop}
+use lib.Seq.{take-nil, take-take, take-all, take-at, length-take-le}
+use Rattle.terms.specs.Ladder.{_when_else_}
+use Rattle.terms.specs.Lists.{part}
+use Rattle.wire.specs.BigEndian.{spelled, numberAt}
+use Rattle.packet_read.specs.Flags.{bit}
+use Rattle.packet_read.specs.Destination.{certificateType, certificateLength, keyType, destinationIn}
+use Rattle.packet_read.specs.Options.{destinationAt, maxAt, signatureAt, signatureSize, destinationSize, afterDestination, following, optionsIn}
+use Rattle.packet_read.specs.Reading.{Said, nackCount, flagsOf, optionsAt, optionsEnd, fieldsOf, withOptions, readOf, nacksOf, destinationOf, signatureOf, payloadOf}
+use Rattle.packet_read.specs.declared.DestinationFound.{DestinationFound}
+use Rattle.packet_read.specs.declared.DestinationFound.the-variants as D
+use Rattle.packet_read.specs.declared.Found.{Found}
+use Rattle.packet_read.specs.declared.Options.{Options}
+use Rattle.packet_read.specs.declared.Options.the-variants as O
+use Rattle.packet_read.proofs.Readable.{readable}
+
+-- two ladders with the same test, that go on alike where it fails
+same-rung : {A : Type 0} (x : A) {y z : A} (s t : Bool) → s ≡ t → (s ≡ false → y ≡ z) → (x when s else y) ≡ (x when t else z)
+same-rung x true t e f = rw (← e)
+same-rung x false t e f = rw (← e) (f refl)
+
+-- two numbers that are alike where they are there
+same-if : (z : ℕ) {x y : ℕ} (t : Bool) → (t ≡ true → x ≡ y) → (x when t else z) ≡ (y when t else z)
+same-if z true f = f refl
+same-if z false f = refl
+
+drop-take : (i m : ℕ) (l : List ℕ) → drop i (take (i + m) l) ≡ take m (drop i l)
+drop-take zero m l = rw zero-add
+drop-take (suc i) m [] = rw (suc-add i m) (sym (take-nil m))
+drop-take (suc i) m (x ∷ l) = rw (suc-add i m) (drop-take i m l)
+
+number-within : (k i end : ℕ) (p : List ℕ) → i + k ≤ end → numberAt k i (take end p) ≡ numberAt k i p
+number-within k i end p h =
+    let e : end ≡ i + (end - i) = omega arith in
+    ap spelled (ap (λ (n : ℕ). take k (drop i (take n p))) e ∙ ap (take k) (drop-take i (end - i) p) ∙ take-take k (end - i) (drop i p) (omega arith))
+
+-- p and q agree at each number that lies before `end`
+module _ (p q : List ℕ) (end : ℕ) (same : (k i : ℕ) → i + k ≤ end → numberAt k i p ≡ numberAt k i q) where
+  destination-alike : (at : ℕ) → destinationIn p at end ≡ destinationIn q at end
+  unfolding destinationIn
+  destination-alike at =
+      same-rung _ (ltb end (at + 387)) (ltb end (at + 387)) refl λ a.
+      let inside = ltb-false end (at + 387) a in
+      let type = same 1 (at + 384) (omega arith) in
+      let size = same 2 (at + 385) (omega arith) in
+      same-rung _ (not (eqb (certificateType p at end) 5)) (not (eqb (certificateType q at end) 5)) (ap (λ (n : ℕ). not (eqb n 5)) type) λ _.
+      same-rung _ (ltb (certificateLength p at end) 4) (ltb (certificateLength q at end) 4) (ap (λ (n : ℕ). ltb n 4) size) λ b.
+      same-rung _ (ltb end (at + (387 + certificateLength p at end))) (ltb end (at + (387 + certificateLength q at end))) (ap (λ (n : ℕ). ltb end (at + (387 + n))) size) λ c.
+      let key = same 2 (at + 387) (omega (arith, ltb-false (certificateLength p at end) 4 b, ltb-false end (at + (387 + certificateLength p at end)) c)) in
+      same-rung _ (not (eqb (keyType p at end) 7)) (not (eqb (keyType q at end) 7)) (ap (λ (n : ℕ). not (eqb n 7)) key) λ _.
+      ap (λ (n : ℕ). D.Whole (387 + n)) size
+
+  module _ (at flags : ℕ) (delay-fits : destinationAt at flags ≤ end) where
+    after-alike : (size : ℕ) → afterDestination p at end flags size ≡ afterDestination q at end flags size
+    unfolding afterDestination
+    after-alike size =
+        same-rung _ (ltb end (signatureAt at flags size)) (ltb end (signatureAt at flags size)) refl λ a.
+        same-rung _ (bit 11 flags && not (bit 5 flags)) (bit 11 flags && not (bit 5 flags)) refl λ _.
+        same-rung _ (bit 11 flags && bit 5 flags) (bit 11 flags && bit 5 flags) refl λ _.
+        same-rung _ (ltb end (signatureAt at flags size + signatureSize p at end flags size)) (ltb end (signatureAt at flags size + signatureSize q at end flags size)) refl λ _.
+        let inside = ltb-false end (signatureAt at flags size) a in
+        let d : (numberAt 2 at p when bit 6 flags else 0) ≡ (numberAt 2 at q when bit 6 flags else 0) = same-if 0 (bit 6 flags) (λ b. same 2 at (rw b at delay-fits)) in
+        let m : (numberAt 2 (maxAt at flags size) p when bit 7 flags else 0) ≡ (numberAt 2 (maxAt at flags size) q when bit 7 flags else 0) =
+        same-if 0 (bit 7 flags) (λ b. same 2 (maxAt at flags size) (rw b at inside)) in
+        rw (d, m)
+
+    following-alike : (d : DestinationFound) → following p at end flags d ≡ following q at end flags d
+    following-alike (D.Refused r) = refl
+    following-alike (D.Whole size) = after-alike size
+
+  options-alike : (at flags : ℕ) → optionsIn p at end flags ≡ optionsIn q at end flags
+  unfolding optionsIn
+  options-alike at flags =
+      same-rung _ (ltb end (destinationAt at flags)) (ltb end (destinationAt at flags)) refl λ a.
+      following-alike at flags (ltb-false _ _ a) (destinationSize p at end flags)
+      ∙ ap (λ (d : DestinationFound). following q at end flags (d when bit 5 flags else D.Whole 0)) (destination-alike (destinationAt at flags))
+
+  fields-alike : (n flags : ℕ) (f : Found) → length p ≡ length q → 22 + 4 * n ≤ end → fieldsOf p n end flags f ≡ fieldsOf q n end flags f
+  fields-alike n flags f l h =
+      rw (same 4 0 (omega arith), same 4 4 (omega arith), same 4 8 (omega arith), same 4 12 (omega arith), same 1 (17 + 4 * n) (omega arith), l)
+
+said-alike : (p q : List ℕ) → ((f : Found) → fieldsOf p (nackCount p) (optionsEnd p) (flagsOf p) f ≡ fieldsOf q (nackCount q) (optionsEnd q) (flagsOf q) f)
+    → (o : Options) → withOptions p o ≡ withOptions q o
+said-alike p q h (O.Refused r) = refl
+said-alike p q h (O.Found f) = rw (h f)
+
+-- the law: packets of the same length that agree up to the end of the first one's option area read alike
+pub reads-alike : (p q : List ℕ) → length p ≡ length q → take (optionsEnd p) p ≡ take (optionsEnd p) q → readOf p ≡ readOf q
+unfolding readOf
+reads-alike p q l e =
+    let same : (k i : ℕ) → i + k ≤ optionsEnd p → numberAt k i p ≡ numberAt k i q =
+    λ k i h. sym (number-within k i (optionsEnd p) p h) ∙ ap (numberAt k i) e ∙ number-within k i (optionsEnd p) q h in
+    let en : nackCount p ≡ nackCount q = same 1 16 (omega arith) in
+    let eo : numberAt 2 (20 + 4 * nackCount p) p ≡ numberAt 2 (20 + 4 * nackCount q) q =
+    same 2 (20 + 4 * nackCount p) (omega arith) ∙ ap (λ (n : ℕ). numberAt 2 (20 + 4 * n) q) en in
+    let ef : flagsOf p ≡ flagsOf q = same 2 (18 + 4 * nackCount p) (omega arith) ∙ ap (λ (n : ℕ). numberAt 2 (18 + 4 * n) q) en in
+    let ea : optionsAt p ≡ optionsAt q = ap (λ (n : ℕ). 22 + 4 * n) en in
+    let ee : optionsEnd p ≡ optionsEnd q = omega arith in
+    let options : optionsIn q (optionsAt p) (optionsEnd p) (flagsOf p) ≡ optionsIn q (optionsAt q) (optionsEnd q) (flagsOf q) = rw (ee, ef, ea) in
+    let fields : (f : Found) → fieldsOf q (nackCount p) (optionsEnd p) (flagsOf p) f ≡ fieldsOf q (nackCount q) (optionsEnd q) (flagsOf q) f = λ f. rw (ee, ef, en) in
+    same-rung _ (ltb 65535 (length p)) (ltb 65535 (length q)) (ap (λ (n : ℕ). ltb 65535 n) l) λ _.
+    same-rung _ (ltb (length p) 22) (ltb (length q) 22) (ap (λ (n : ℕ). ltb n 22) l) λ _.
+    same-rung _ (ltb (length p) (optionsAt p)) (ltb (length q) (optionsAt q)) (cc) λ _.
+    same-rung _ (ltb (length p) (optionsEnd p)) (ltb (length q) (optionsEnd q)) (cc) λ _.
+    ap (withOptions p) (options-alike p q (optionsEnd p) same (optionsAt p) (flagsOf p) ∙ options)
+    ∙ said-alike p q (λ f. fields-alike p q (optionsEnd p) same (nackCount p) (flagsOf p) f l (omega arith) ∙ fields f) (optionsIn q (optionsAt q) (optionsEnd q) (flagsOf q))
+
+-- so another payload as long changes no field
+pub payload-apart : (p payload : List ℕ) → optionsEnd p + length payload ≡ length p → readOf p ≡ readOf (take (optionsEnd p) p ++ payload)
+payload-apart p payload h =
+    let front : length (take (optionsEnd p) p) ≡ optionsEnd p = length-take-le (optionsEnd p) p (omega arith) in
+    reads-alike p (take (optionsEnd p) p ++ payload) (rw (length-append, front) (omega arith)) (sym (take-at (take (optionsEnd p) p) payload (optionsEnd p) front))
+
+-- how long the destination is
+abbrev pub destinationLength : List ℕ → ℕ
+destinationLength p = readOf p .values .destination .len
+
+-- What each part of a packet is, as a list.
+pub record PartsAre (p : List ℕ) : Type 0 where
+  pub nacks-are : nacksOf p ≡ part p 17 (17 + 4 * nackCount p)
+  pub destination-is : destinationOf p ≡ part p (destinationAt (optionsAt p) (flagsOf p)) (maxAt (optionsAt p) (flagsOf p) (destinationLength p))
+  pub signature-is : signatureOf p
+      ≡ part p (signatureAt (optionsAt p) (flagsOf p) (destinationLength p))
+      (signatureAt (optionsAt p) (flagsOf p) (destinationLength p) + signatureSize p (optionsAt p) (optionsEnd p) (flagsOf p) (destinationLength p))
+  pub payload-is : payloadOf p ≡ drop (optionsEnd p) p
+
+-- where the read is not refused
+pub parts-are : (p : List ℕ) → readOf p .refusal ≡ 0 → PartsAre p
+parts-are p h =
+    let r = readable p h in
+    let long : destinationLength p ≡ r .size = ap (λ (s : Said). s .values .destination .len) (r .is) in
+    let cut : (a n : ℕ) → n ≡ a + n - a = λ a n. omega arith in
+    record {
+      nacks-are = rw (r .is, ← cut 17 (4 * nackCount p));
+      destination-is = rw (long, r .is, ← cut (destinationAt (optionsAt p) (flagsOf p)) (r .size));
+      signature-is = rw (long, r .is, ← cut (signatureAt (optionsAt p) (flagsOf p) (r .size)) (signatureSize p (optionsAt p) (optionsEnd p) (flagsOf p) (r .size)));
+      payload-is = rw (r .is) (take-all (length p - optionsEnd p) (drop (optionsEnd p) p) (simp length-drop (omega arith)));
+    }

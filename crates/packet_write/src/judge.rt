@@ -1,0 +1,142 @@
+// Whether a packet can be written, how long it is, and where its signature begins.
+use super::Fields;
+use super::Writing;
+use packet_read::flags;
+use terms::Refusal;
+ghost use mathlib.Core.Path.{_≡_};
+ghost use mathlib.Core.Bool.{true, false, _&&_, not};
+ghost use Prim.Native.Nat.{_+_, _≤_, _<_};
+ghost use lib.Dec.{eqb};
+ghost use Rattle.terms.specs.Ladder.{_when_else_};
+ghost use Rattle.packet_read.specs.Flags.{bit};
+ghost use Rattle.packet_read.specs.Destination.{isDestination};
+ghost use Rattle.packet_write.specs.Writing.{said, unfit, partsUnfit, sizesOf, judgeOf};
+
+// A part or number that is given although its bit is clear.
+fn unfit(there: bool, given: usize) -> bool
+    ensures { λ r. ⌜ r ≡ unfit there given ⌝ }
+{
+    if there {
+        return false;
+    }
+    0 < given
+}
+
+// A part or number given for any clear bit.
+fn parts_unfit(fields: Fields, destination: usize, signature: usize) -> bool
+    ensures { λ r. ⌜ r ≡ partsUnfit fields destination signature ⌝ }
+{
+    let flags = fields.flags;
+    let delay = unfit(flags::has(flags, flags::DELAY), fields.delay as usize);
+    let from = unfit(flags::has(flags, flags::FROM), destination);
+    let max_size = unfit(flags::has(flags, flags::MAX_SIZE), fields.max_size as usize);
+    let signed = unfit(flags::has(flags, flags::SIGNATURE), signature);
+    delay | (from | (max_size | signed))
+}
+
+// A destination that is there and has another form.
+fn other_form(from: bool, destination: &[u8]) -> bool
+    ensures { λ r. ⌜ r ≡ (from && not (isDestination (now (destination .entry)))) ⌝ }
+{
+    if !from {
+        return false;
+    }
+    !packet_read::is_destination(destination)
+}
+
+// A signature that is there beside a destination and has another length than 64.
+fn other_length(signed: bool, from: bool, signature: usize) -> bool
+    ensures { λ r. ⌜ r ≡ (signed && (from && not (eqb signature 64))) ⌝ }
+{
+    if !signed {
+        return false;
+    }
+    if !from {
+        return false;
+    }
+    signature != 64
+}
+
+// How many option bytes stand before the signature.
+pub(super) fn before_signature(flags: u16, destination: usize) -> usize
+    requires { ⌜ destination ≤ 65535 ⌝ }
+    ensures { λ r. ⌜ (r ≡ (2 when bit 6 flags else 0) + destination + (2 when bit 7 flags else 0)) × (r ≤ destination + 4) ⌝ }
+{
+    let delay = flags::size_if(flags::has(flags, flags::DELAY), 2);
+    let max_size = flags::size_if(flags::has(flags, flags::MAX_SIZE), 2);
+    delay + destination + max_size
+}
+
+// A part that is longer than any packet, so that no sum is taken of lengths that could leave the width.
+fn part_long(destination: usize, signature: usize, payload: usize) -> bool
+    ensures { λ r. ⌜ (r ≡ true → 65535 < destination + signature + payload) × (r ≡ false → (destination ≤ 65535) × (signature ≤ 65535) × (payload ≤ 65535)) ⌝ }
+{
+    if destination > 65535 {
+        return true;
+    }
+    if signature > 65535 {
+        return true;
+    }
+    payload > 65535
+}
+
+// The last two refusals, which go by lengths.
+fn sizes(
+    flags: u16,
+    nacks: usize,
+    destination: usize,
+    signature: usize,
+    payload: usize,
+    room: usize,
+) -> Writing
+    requires { ⌜ nacks ≤ 255 ⌝ }
+    ensures { λ r. ⌜ said r ≡ sizesOf flags nacks destination signature payload room ⌝ }
+{
+    if part_long(destination, signature, payload) {
+        return Writing::Refused(Refusal::PacketLong);
+    }
+    let signature_at = 22 + 4 * nacks + before_signature(flags, destination);
+    let length = signature_at + signature + payload;
+    if length > 65535 {
+        return Writing::Refused(Refusal::PacketLong);
+    }
+    if room < length {
+        return Writing::Refused(Refusal::OutputShort);
+    }
+    let begins = flags::size_if(flags::has(flags, flags::SIGNATURE), signature_at);
+    Writing::Written(length, begins)
+}
+
+// The refusals in document 01's order, or the lengths.
+pub(super) fn judge(
+    fields: Fields,
+    nacks: usize,
+    destination: &[u8],
+    signature: usize,
+    payload: usize,
+    room: usize,
+) -> Writing
+    ensures { λ r. ⌜ said r ≡ judgeOf fields nacks (now (destination .entry)) signature payload room ⌝ }
+{
+    let flags = fields.flags;
+    if nacks > 255 {
+        return Writing::Refused(Refusal::NacksMany);
+    }
+    let from = flags::has(flags, flags::FROM);
+    if flags::has(flags, flags::OFFLINE) {
+        if from {
+            return Writing::Refused(Refusal::OfflineBlock);
+        }
+        return Writing::Refused(Refusal::OfflineAlone);
+    }
+    if parts_unfit(fields, destination.len(), signature) {
+        return Writing::Refused(Refusal::PartsUnfit);
+    }
+    if other_form(from, destination) {
+        return Writing::Refused(Refusal::DestinationForm);
+    }
+    if other_length(flags::has(flags, flags::SIGNATURE), from, signature) {
+        return Writing::Refused(Refusal::PartsUnfit);
+    }
+    sizes(flags, nacks, destination.len(), signature, payload, room)
+}

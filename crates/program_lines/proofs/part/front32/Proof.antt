@@ -1,0 +1,22 @@
+-- As many numbers as the slice has are its part, as long as asked.
+use native.Mathlib.Omega.{arith}
+use lib.ListN.{length-take}
+use borrow.Author.Needs.{needs}
+use Rattle.program_lines.proofs.part.front32.Statement.{statement}
+use Rattle.program_lines.proofs.part.front32.Tie as tie
+
+slice-aggregate-result : tie.Need-slice-aggregate-result
+slice-aggregate-result c = simp length-take (omega arith)
+
+slice-aggregate-result-2 : tie.Need-slice-aggregate-result-2
+slice-aggregate-result-2 c = search needs
+
+returns : tie.Need-returns
+returns c = search needs
+
+returns-2 : tie.Need-returns-2
+returns-2 c = search needs
+
+pub front32-spec : {M : Type 1} → statement M
+front32-spec =
+    tie.close (tie.spec slice-aggregate-result slice-aggregate-result-2 returns returns-2)
