@@ -1,4 +1,4 @@
--- `host::digitmeadow_acknowledge` meets its contract: a walk of its MIR, by hand. The state behind the `&` is copied out, and `host_numbers::acknowledgement` is called on the copy; the output is given to it for good.
+-- `host_library::digitmeadow_acknowledge` meets its contract: a walk of its MIR, by hand. The state behind the `&` is copied out, and `host_numbers::acknowledgement` is called on the copy; the output is given to it for good.
 -- All that the proof knows of `acknowledgement` is that it meets its contract. Assumes nothing.
 use mathlib.Core.Path.{_≡_, refl, ap}
 use Prim.Native.Nat.{ℕ, _<_, _^_}
@@ -53,7 +53,7 @@ use Rattle.host_numbers.proofs.acknowledgement as core
 use Rattle.host_numbers.proofs.acknowledgement.Symbol as core-def
 use Rattle.host_numbers.proofs.acknowledgement.Symbol.{name as #host-numbers·acknowledgement}
 use Rattle.host_numbers.proofs.acknowledgement.Met as core-thm
-use Rattle.host_library.proofs.digitmeadow_acknowledge.Key.{name as #host·digitmeadow-acknowledge}
+use Rattle.host_library.proofs.digitmeadow_acknowledge.Key.{name as #host-library·digitmeadow-acknowledge}
 use Rattle.host_library.proofs.digitmeadow_acknowledge as f
 use Rattle.host_library.proofs.digitmeadow_acknowledge.Statement as stated
 use Rattle.host_library.proofs.digitmeadow_acknowledge.Code as code
@@ -154,6 +154,6 @@ pub digitmeadow-acknowledge-spec : {M : Type 1} → stated.statement M
 unfolding code.routine tablesOf
 digitmeadow-acknowledge-spec 𝓤 H 𝓜 𝓖 𝓡 =
     entered 𝓤 H (tripleOf 𝓤 H (𝓖 .A) f.signature (f.spec 𝓤 H (𝓖 .A) (𝓜 .mem) (𝓡 .run)))
-    (tables 𝓤 H 𝓜 𝓡 code.env .C) (tables 𝓤 H 𝓜 𝓡 code.env .Λ) #host·digitmeadow-acknowledge code.function (code.unfolded 𝓤 H 𝓜 𝓡)
+    (tables 𝓤 H 𝓜 𝓡 code.env .C) (tables 𝓤 H 𝓜 𝓡 code.env .Λ) #host-library·digitmeadow-acknowledge code.function (code.unfolded 𝓤 H 𝓜 𝓡)
     (f-meets 𝓤 H (𝓖 .A) (givenOf 𝓤 H 𝓜 𝓖) (𝓜 .mem) (𝓡 .run) (tablesOf 𝓤 H 𝓜 (tables 𝓤 H 𝓜 𝓡 code.env))
     (cited 𝓤 H (Core 𝓤 H (𝓖 .A) (𝓜 .mem) (𝓡 .run)) 𝓜 𝓡 code.env #host-numbers·acknowledgement core-def.routine code.calls-host-numbers·acknowledgement (core-thm.met 𝓤 H 𝓜 𝓖 𝓡)))

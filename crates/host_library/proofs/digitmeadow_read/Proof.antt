@@ -1,4 +1,4 @@
--- `host::digitmeadow_read` meets its contract: it gives what `packet::read` says, in numbers. Assumes nothing.
+-- `host_library::digitmeadow_read` meets its contract: it gives what `packet_read::read` says, in numbers. Assumes nothing.
 use Prim.Native.Nat.{ℕ}
 use mathlib.Core.Path.{sym, _∙_, ap}
 use Rattle.packet_read.specs.Reading.{said, nothing}

@@ -1,4 +1,4 @@
--- `host::digitmeadow_start` meets its contract: a walk of its MIR, by hand. The borrow is opened, the state is copied out, `host_numbers::begin` is called on the copy, and the borrow is closed at the state that it gave.
+-- `host_library::digitmeadow_start` meets its contract: a walk of its MIR, by hand. The borrow is opened, the state is copied out, `host_numbers::begin` is called on the copy, and the borrow is closed at the state that it gave.
 -- All that the proof knows of `begin` is that it meets its contract. Assumes nothing.
 use mathlib.Core.Path.{_≡_, refl, ap}
 use Prim.Native.Nat.{ℕ, _<_, _^_}
@@ -54,7 +54,7 @@ use Rattle.host_numbers.proofs.begin as core
 use Rattle.host_numbers.proofs.begin.Symbol as core-def
 use Rattle.host_numbers.proofs.begin.Symbol.{name as #host-numbers·begin}
 use Rattle.host_numbers.proofs.begin.Met as core-thm
-use Rattle.host_library.proofs.digitmeadow_start.Key.{name as #host·digitmeadow-start}
+use Rattle.host_library.proofs.digitmeadow_start.Key.{name as #host-library·digitmeadow-start}
 use Rattle.host_library.proofs.digitmeadow_start as f
 use Rattle.host_library.proofs.digitmeadow_start.Statement as stated
 use Rattle.host_library.proofs.digitmeadow_start.Code as code
@@ -164,6 +164,6 @@ pub digitmeadow-start-spec : {M : Type 1} → stated.statement M
 unfolding code.routine tablesOf
 digitmeadow-start-spec 𝓤 H 𝓜 𝓖 𝓡 =
     entered 𝓤 H (tripleOf 𝓤 H (𝓖 .A) f.signature (f.spec 𝓤 H (𝓖 .A) (𝓜 .mem) (𝓡 .run)))
-    (tables 𝓤 H 𝓜 𝓡 code.env .C) (tables 𝓤 H 𝓜 𝓡 code.env .Λ) #host·digitmeadow-start code.function (code.unfolded 𝓤 H 𝓜 𝓡)
+    (tables 𝓤 H 𝓜 𝓡 code.env .C) (tables 𝓤 H 𝓜 𝓡 code.env .Λ) #host-library·digitmeadow-start code.function (code.unfolded 𝓤 H 𝓜 𝓡)
     (f-meets 𝓤 H (𝓖 .A) (givenOf 𝓤 H 𝓜 𝓖) (𝓜 .mem) (𝓡 .run) (tablesOf 𝓤 H 𝓜 (tables 𝓤 H 𝓜 𝓡 code.env))
     (cited 𝓤 H (Core 𝓤 H (𝓖 .A) (𝓜 .mem) (𝓡 .run)) 𝓜 𝓡 code.env #host-numbers·begin core-def.routine code.calls-host-numbers·begin (core-thm.met 𝓤 H 𝓜 𝓖 𝓡)))

@@ -1,4 +1,4 @@
--- `host::digitmeadow_take` meets its contract: a walk of its MIR, by hand. The reference and the slices are given to `inplace::take_lent` for good, so that what it says of them at exit is what is said here; its answer is given to `host_numbers::of_given`.
+-- `host_library::digitmeadow_take` meets its contract: a walk of its MIR, by hand. The reference and the slices are given to `receiver_in_place::take_lent` for good, so that what it says of them at exit is what is said here; its answer is given to `host_numbers::of_given`.
 -- All that the proof knows of the two is that they meet their contracts. Assumes nothing.
 use mathlib.Core.Path.{_≡_, refl, _∙_, ap}
 use Prim.Native.Nat.{ℕ}
@@ -49,7 +49,7 @@ use Rattle.terms.proofs.Given.Laws as N′
 use Rattle.receiver_in_place.specs.Behind.{tookBehind}
 use Rattle.receiver_in_place.proofs.take_lent as core
 use Rattle.receiver_in_place.proofs.take_lent.Symbol as core-def
-use Rattle.receiver_in_place.proofs.take_lent.Symbol.{name as #inplace·take-lent}
+use Rattle.receiver_in_place.proofs.take_lent.Symbol.{name as #receiver-in-place·take-lent}
 use Rattle.receiver_in_place.proofs.take_lent.Met as core-thm
 use Rattle.host_numbers.specs.declared.Counted.{Counted}
 use Rattle.host_numbers.specs.Numbers.{inNumbers, hosted, counted}
@@ -59,7 +59,7 @@ use Rattle.host_numbers.proofs.of_given as told
 use Rattle.host_numbers.proofs.of_given.Symbol as told-def
 use Rattle.host_numbers.proofs.of_given.Symbol.{name as #host-numbers·of-given}
 use Rattle.host_numbers.proofs.of_given.Met as told-thm
-use Rattle.host_library.proofs.digitmeadow_take.Key.{name as #host·digitmeadow-take}
+use Rattle.host_library.proofs.digitmeadow_take.Key.{name as #host-library·digitmeadow-take}
 use Rattle.host_library.proofs.digitmeadow_take as f
 use Rattle.host_library.proofs.digitmeadow_take.Statement as stated
 use Rattle.host_library.proofs.digitmeadow_take.Code as code
@@ -134,7 +134,7 @@ module _ {M : Type 1} (𝓤 : URA M) (H : Heap 𝓤) (A : Atoms 𝓤) (W : Given
       suffices ! _ (ends-at 𝓤 H A f.ended stayed (f.clauses 𝓤 H A at-mem run) W (((κ, (κ′, (κ″, tt))), (q, (q′, (q″, tt))), bounds, x, at), tt) (LL.val K.the-type K′.the-laws c) c (st, (tt, (zs, tt))) (tt, (tt, (l, tt)))) $
       says ! (says-so a c st zs e d) $ frame ! $ nothing ! $ move ! (1 ∷ 0 ∷ []) $ fjoin ! $ nothing ! $ fjoin ! $ move ! (1 ∷ 0 ∷ []) $ fjoin ! $ owned ! K.the-row (Is K.the-row) (LL.makes K.the-type K′.the-plain 𝓤 H A) c _ fits $ move ! (1 ∷ 0 ∷ []) $ done !
 
-  module _ (C : Calls 𝓤 H) (Λ : Loops 𝓤 H) (fm : FmC 𝓤 H (W .laws) C) (known0 : Triple 𝓤 (C #inplace·take-lent) (Core 𝓤 H A at-mem run)) (known1 : Triple 𝓤 (C #host-numbers·of-given) (Told 𝓤 H A at-mem run)) where
+  module _ (C : Calls 𝓤 H) (Λ : Loops 𝓤 H) (fm : FmC 𝓤 H (W .laws) C) (known0 : Triple 𝓤 (C #receiver-in-place·take-lent) (Core 𝓤 H A at-mem run)) (known1 : Triple 𝓤 (C #host-numbers·of-given) (Told 𝓤 H A at-mem run)) where
     walk : ent 𝓤 (onEntry 𝓤 H A f.signature (κ, (κ′, (κ″, tt))) (q, (q′, (q″, tt))) x at) (WpFn 𝓤 H C Λ code.function (vptr b o ∷ s ∷ u ∷ []) Post)
     walk =
         qed W ((‵ (flft κ q) ⊛ ‵ (flft κ′ q′) ⊛ ‵ (flft κ″ q″) ⊛ ‵ ftrue) ∷ ‵ (owns (MutRef (named 0) κ T.the-row ∷ ShrSlice (named 1) κ′ u8 ∷ MutSlice (named 2) κ″ u8 ∷ []) x at) ∷ []) ∵ enter ! C Λ code.function (vptr b o ∷ s ∷ u ∷ []) _ $
@@ -164,12 +164,12 @@ module _ {M : Type 1} (𝓤 : URA M) (H : Heap 𝓤) (A : Atoms 𝓤) (W : Given
         keep ! (0 ∷ 1 ∷ 3 ∷ []) $ by ! (exits a c (ws .0) (ws .1 .1 .0) e d l (LL.owes K.the-type K′.the-laws c (LL.owed K.the-type K′.the-laws c _ is′)))))))))))))))))))))
 
 module _ {M : Type 1} (𝓤 : URA M) (H : Heap 𝓤) (A : Atoms 𝓤) (W : Given 𝓤 H A) (mem : Memory → SProp 𝓤) (run : Routine → Fun 𝓤) where
-  f-walks : (C : Calls 𝓤 H) (Λ : Loops 𝓤 H) → FmC 𝓤 H (W .laws) C → Triple 𝓤 (C #inplace·take-lent) (Core 𝓤 H A mem run) → Triple 𝓤 (C #host-numbers·of-given) (Told 𝓤 H A mem run) → Walks 𝓤 H A f.ended stayed (WpFn 𝓤 H C Λ code.function) (f.clauses 𝓤 H A mem run)
+  f-walks : (C : Calls 𝓤 H) (Λ : Loops 𝓤 H) → FmC 𝓤 H (W .laws) C → Triple 𝓤 (C #receiver-in-place·take-lent) (Core 𝓤 H A mem run) → Triple 𝓤 (C #host-numbers·of-given) (Told 𝓤 H A mem run) → Walks 𝓤 H A f.ended stayed (WpFn 𝓤 H C Λ code.function) (f.clauses 𝓤 H A mem run)
   f-walks C Λ fm known0 known1 = walked 𝓤 H A f.ended stayed (f.clauses 𝓤 H A mem run) (WpFn 𝓤 H C Λ code.function) (λ κs. (ptr-vals, (slice-vals, (slice-vals, tt))))
       (λ κs. (mut-tells (named 0) (κs .0) T.the-row, (shr-slice-tells (named 1) (κs .1 .0) u8, (mut-slice-tells (named 2) (κs .1 .1 .0) u8, tt))))
       (λ κs qs bounds a g are. via 𝓤 _ (fst∗ 𝓤 _ (emp 𝓤)) (walk 𝓤 H A W mem run (κs .0) (κs .1 .0) (κs .1 .1 .0) bounds (qs .0) (qs .1 .0) (qs .1 .1 .0) (a .0 .ptr .0) (a .0 .ptr .1) (a .0 .name) (a .0 .now) (a .1 .0) (a .1 .1 .0) (are .1 .0 .0 .1) (are .1 .1 .0 .0 .1) C Λ fm known0 known1))
 
-f-meets : {M : Type 1} (𝓤 : URA M) (H : Heap 𝓤) (A : Atoms 𝓤) → Given 𝓤 H A → (mem : Memory → SProp 𝓤) (run : Routine → Fun 𝓤) (𝓣 : Tables 𝓤 H) → Triple 𝓤 (𝓣 .C #inplace·take-lent) (Core 𝓤 H A mem run) → Triple 𝓤 (𝓣 .C #host-numbers·of-given) (Told 𝓤 H A mem run)
+f-meets : {M : Type 1} (𝓤 : URA M) (H : Heap 𝓤) (A : Atoms 𝓤) → Given 𝓤 H A → (mem : Memory → SProp 𝓤) (run : Routine → Fun 𝓤) (𝓣 : Tables 𝓤 H) → Triple 𝓤 (𝓣 .C #receiver-in-place·take-lent) (Core 𝓤 H A mem run) → Triple 𝓤 (𝓣 .C #host-numbers·of-given) (Told 𝓤 H A mem run)
     → Meets 𝓤 H A f.signature (WpFn 𝓤 H (𝓣 .C) (𝓣 .Λ) code.function) (f.spec 𝓤 H A mem run)
 f-meets 𝓤 H A W mem run 𝓣 known0 known1 =
     walk-meets 𝓤 H A f.ended stayed W (goes-gave-ref 𝓤 H A W 3 0 tt (plain (λ _. T.the-row)), (goes-dropped 𝓤 H A W 3 (shrSliceOf (1 ∷ []) tt (plain (λ _. u8))) yes (λ κs x f. refl), (goes-gave-slice 𝓤 H A W 3 2 tt (plain (λ _. u8)), tt))) (f.clauses 𝓤 H A mem run)
@@ -179,7 +179,7 @@ pub digitmeadow-take-spec : {M : Type 1} → stated.statement M
 unfolding code.routine tablesOf
 digitmeadow-take-spec 𝓤 H 𝓜 𝓖 𝓡 =
     entered 𝓤 H (tripleOf 𝓤 H (𝓖 .A) f.signature (f.spec 𝓤 H (𝓖 .A) (𝓜 .mem) (𝓡 .run)))
-    (tables 𝓤 H 𝓜 𝓡 code.env .C) (tables 𝓤 H 𝓜 𝓡 code.env .Λ) #host·digitmeadow-take code.function (code.unfolded 𝓤 H 𝓜 𝓡)
+    (tables 𝓤 H 𝓜 𝓡 code.env .C) (tables 𝓤 H 𝓜 𝓡 code.env .Λ) #host-library·digitmeadow-take code.function (code.unfolded 𝓤 H 𝓜 𝓡)
     (f-meets 𝓤 H (𝓖 .A) (givenOf 𝓤 H 𝓜 𝓖) (𝓜 .mem) (𝓡 .run) (tablesOf 𝓤 H 𝓜 (tables 𝓤 H 𝓜 𝓡 code.env))
-    (cited 𝓤 H (Core 𝓤 H (𝓖 .A) (𝓜 .mem) (𝓡 .run)) 𝓜 𝓡 code.env #inplace·take-lent core-def.routine code.calls-inplace·take-lent (core-thm.met 𝓤 H 𝓜 𝓖 𝓡))
+    (cited 𝓤 H (Core 𝓤 H (𝓖 .A) (𝓜 .mem) (𝓡 .run)) 𝓜 𝓡 code.env #receiver-in-place·take-lent core-def.routine code.calls-receiver-in-place·take-lent (core-thm.met 𝓤 H 𝓜 𝓖 𝓡))
     (cited 𝓤 H (Told 𝓤 H (𝓖 .A) (𝓜 .mem) (𝓡 .run)) 𝓜 𝓡 code.env #host-numbers·of-given told-def.routine code.calls-host-numbers·of-given (told-thm.met 𝓤 H 𝓜 𝓖 𝓡)))

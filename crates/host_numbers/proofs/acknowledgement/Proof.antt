@@ -1,4 +1,4 @@
--- `host_numbers::acknowledgement` meets its contract: it gives what `ack::acknowledge` says, in numbers. Assumes nothing.
+-- `host_numbers::acknowledgement` meets its contract: it gives what `receiver_ack::acknowledge` says, in numbers. Assumes nothing.
 use mathlib.Core.Path.{_∙_, ap}
 use Rattle.host_numbers.specs.Numbers.{hostedAck, wrote}
 use borrow.Author.Needs.{needs}

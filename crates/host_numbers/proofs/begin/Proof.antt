@@ -1,4 +1,4 @@
--- `host_numbers::begin` meets its contract: it gives what `slots::start` says, in numbers, and where that is a refusal the state that was given. Assumes nothing.
+-- `host_numbers::begin` meets its contract: it gives what `receiver_state::start` says, in numbers, and where that is a refusal the state that was given. Assumes nothing.
 use Prim.Native.Nat.{ℕ}
 use mathlib.Core.Path.{_∙_, ap}
 use Rattle.terms.specs.declared.Answer.the-variants as A

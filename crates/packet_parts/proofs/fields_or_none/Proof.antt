@@ -1,4 +1,4 @@
--- `parts::fields_or_none` meets its contract: it is the values that the answer of `read` says. Assumes nothing.
+-- `packet_parts::fields_or_none` meets its contract: it is the values that the answer of `read` says. Assumes nothing.
 use mathlib.Core.Path.{sym, _∙_, ap}
 use Rattle.packet_read.specs.Reading.{Said, said}
 use Rattle.packet_read.specs.declared.Packet.{Packet}

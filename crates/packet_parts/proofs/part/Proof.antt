@@ -1,4 +1,4 @@
--- `parts::part` meets its contract: a part from its first byte to its last. Assumes nothing.
+-- `packet_parts::part` meets its contract: a part from its first byte to its last. Assumes nothing.
 use native.Mathlib.Nat.{add-sub-cancel-left}
 use borrow.Author.Needs.{needs}
 use Rattle.packet_parts.proofs.part.Statement.{statement}

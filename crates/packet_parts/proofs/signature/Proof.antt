@@ -1,4 +1,4 @@
--- `parts::signature` meets its contract: the part lies inside the packet, where `read` says. Assumes nothing.
+-- `packet_parts::signature` meets its contract: the part lies inside the packet, where `read` says. Assumes nothing.
 use mathlib.Core.Path.{_∙_}
 use native.Mathlib.Omega.{arith}
 use borrow.Author.Needs.{needs}

@@ -1,4 +1,4 @@
--- `packet::fields` meets its contract: each field is read at its place. Assumes nothing.
+-- `packet_read::fields` meets its contract: each field is read at its place. Assumes nothing.
 use borrow.Author.Needs.{needs}
 use Rattle.packet_read.proofs.fields.Statement.{statement}
 use Rattle.packet_read.proofs.fields.Tie as tie

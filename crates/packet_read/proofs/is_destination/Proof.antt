@@ -1,4 +1,4 @@
--- `packet::is_destination` meets its contract: the destination that was found fills the bytes. Assumes nothing.
+-- `packet_read::is_destination` meets its contract: the destination that was found fills the bytes. Assumes nothing.
 use mathlib.Core.Path.{sym, _∙_, ap}
 use denote.Ref.{now}
 use lib.ListN.{length}

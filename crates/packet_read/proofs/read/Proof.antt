@@ -1,4 +1,4 @@
--- `packet::read` meets its contract: each test of a length is a rung of the ladder, and then the options are. Assumes nothing.
+-- `packet_read::read` meets its contract: each test of a length is a rung of the ladder, and then the options are. Assumes nothing.
 use mathlib.Core.Path.{_≡_, sym, _∙_, ap}
 use denote.Ref.{now}
 use Rattle.packet_read.specs.Reading.{answered, withOptions, readOf}

@@ -1,4 +1,4 @@
--- `writer::write` meets its contract: what the judge refuses leaves the output, and else the packet goes to its front. Assumes nothing.
+-- `packet_write::write` meets its contract: what the judge refuses leaves the output, and else the packet goes to its front. Assumes nothing.
 use Prim.Native.Nat.{ℕ}
 use mathlib.Core.Path.{sym, _∙_, ap}
 use borrow.Author.Tests.{eq-eqb, ne-eqb}

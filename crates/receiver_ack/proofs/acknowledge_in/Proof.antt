@@ -1,4 +1,4 @@
--- `ack::acknowledge_in` meets its contract: at each return the tests that led there decide the ladder, and the rules bound the numbers. Assumes nothing.
+-- `receiver_ack::acknowledge_in` meets its contract: at each return the tests that led there decide the ladder, and the rules bound the numbers. Assumes nothing.
 use mathlib.Core.Path.{_≡_, sym, _∙_}
 use mathlib.Core.Bool.{true}
 use borrow.Author.Tests.{not-true, not-false}

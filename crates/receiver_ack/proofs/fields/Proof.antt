@@ -1,4 +1,4 @@
--- `ack::fields` meets its contract: the count of the missing numbers decides, and the 256th of them stands at index 255. Assumes nothing.
+-- `receiver_ack::fields` meets its contract: the count of the missing numbers decides, and the 256th of them stands at index 255. Assumes nothing.
 use native.Mathlib.Omega.{arith}
 use denote.Ref.{now}
 use Rattle.receiver_ack.proofs.Ways.{fields-few, fields-full, some-256th, fields-more}

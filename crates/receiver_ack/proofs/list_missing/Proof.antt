@@ -1,4 +1,4 @@
--- `ack::list_missing` meets its contract: after the numbers below number, those of them that are missing stand at the table's front. Assumes nothing.
+-- `receiver_ack::list_missing` meets its contract: after the numbers below number, those of them that are missing stand at the table's front. Assumes nothing.
 use Prim.Native.Nat.{_+_, _-_}
 use mathlib.Core.Logic.{⊎-elim}
 use native.Mathlib.Omega.{arith}

@@ -1,4 +1,4 @@
--- `ack::plain` meets its contract: the NACKs stand at the table's front, and the writer has room for the packet or refuses it for that alone. Assumes nothing.
+-- `receiver_ack::plain` meets its contract: the NACKs stand at the table's front, and the writer has room for the packet or refuses it for that alone. Assumes nothing.
 use Prim.Native.Nat.{_≤_}
 use mathlib.Core.Path.{_≡_, sym}
 use denote.Ref.{now}

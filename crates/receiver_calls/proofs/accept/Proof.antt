@@ -1,4 +1,4 @@
--- `receiver::accept` meets its contract: the state is taken apart, given to `accept_in`, and put together again. Assumes nothing.
+-- `receiver_calls::accept` meets its contract: the state is taken apart, given to `accept_in`, and put together again. Assumes nothing.
 use mathlib.Core.Path.{ap}
 use borrow.Author.Needs.{needs}
 use Rattle.receiver_calls.specs.Accept.{acceptLeaves}

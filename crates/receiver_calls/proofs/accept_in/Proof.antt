@@ -1,4 +1,4 @@
--- `receiver::accept_in` meets its contract: the judge has the answer, and where it is done the payload fits its slot, which lies within the store. Assumes nothing.
+-- `receiver_calls::accept_in` meets its contract: the judge has the answer, and where it is done the payload fits its slot, which lies within the store. Assumes nothing.
 use mathlib.Core.Path.{_≡_, sym, _∙_, ap}
 use mathlib.Core.List.{[]}
 use native.Mathlib.Omega.{arith}

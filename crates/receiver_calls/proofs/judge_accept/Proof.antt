@@ -1,4 +1,4 @@
--- `receiver::judge_accept` meets its contract: at each return the tests that led there decide the ladder. Assumes nothing.
+-- `receiver_calls::judge_accept` meets its contract: at each return the tests that led there decide the ladder. Assumes nothing.
 use mathlib.Core.Path.{_≡_, sym, _∙_}
 use mathlib.Core.Bool.{true}
 use mathlib.Core.List.{[]}

@@ -1,4 +1,4 @@
--- `receiver::judge_take` meets its contract: at each return the tests that led there decide the ladder. Assumes nothing.
+-- `receiver_calls::judge_take` meets its contract: at each return the tests that led there decide the ladder. Assumes nothing.
 use Prim.Native.Nat.{_%_}
 use native.Mathlib.Omega.{arith}
 use mathlib.Core.Path.{_≡_, sym, _∙_}

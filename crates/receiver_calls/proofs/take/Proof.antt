@@ -1,4 +1,4 @@
--- `receiver::take` meets its contract: the state is taken apart, given to `take_in`, and put together again. Assumes nothing.
+-- `receiver_calls::take` meets its contract: the state is taken apart, given to `take_in`, and put together again. Assumes nothing.
 use mathlib.Core.Path.{ap}
 use borrow.Author.Needs.{needs}
 use Rattle.receiver_calls.specs.Take.{takeLeaves}

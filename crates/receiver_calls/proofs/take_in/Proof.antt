@@ -1,4 +1,4 @@
--- `receiver::take_in` meets its contract: the judge has the answer, and where it is done the payload lies within its slot and fits the output. Assumes nothing.
+-- `receiver_calls::take_in` meets its contract: the judge has the answer, and where it is done the payload lies within its slot and fits the output. Assumes nothing.
 use mathlib.Core.Path.{_≡_, sym, _∙_, ap}
 use mathlib.Core.List.{[], _∷_}
 use native.Mathlib.Omega.{arith}

@@ -1,4 +1,4 @@
--- `slots::banded` meets its contract: one test for each of the three runs. Assumes nothing.
+-- `receiver_state::banded` meets its contract: one test for each of the three runs. Assumes nothing.
 use borrow.Author.Needs.{needs}
 use Rattle.receiver_state.proofs.banded.Statement.{statement}
 use Rattle.receiver_state.proofs.banded.Tie as tie

@@ -1,4 +1,4 @@
--- `slots::highest_held` meets its contract: the second test is read off only where the first fails. Assumes nothing.
+-- `receiver_state::highest_held` meets its contract: the second test is read off only where the first fails. Assumes nothing.
 use mathlib.Core.Bool.{or-true, or-false}
 use borrow.Author.Needs.{needs}
 use borrow.Author.Tests.{eq-eqb, ne-eqb}

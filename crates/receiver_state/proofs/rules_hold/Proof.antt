@@ -1,4 +1,4 @@
--- `slots::rules_hold` meets its contract: each early return breaks a rule, and at the end the two rules over the table are left. Assumes nothing.
+-- `receiver_state::rules_hold` meets its contract: each early return breaks a rule, and at the end the two rules over the table are left. Assumes nothing.
 use mathlib.Core.Path.{sym, _∙_}
 use native.Mathlib.Omega.{arith}
 use borrow.Author.Tests.{not-true, not-false}

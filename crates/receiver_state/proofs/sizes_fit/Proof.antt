@@ -1,4 +1,4 @@
--- `slots::sizes_fit` meets its contract: the slot size first, then the store's length. Assumes nothing.
+-- `receiver_state::sizes_fit` meets its contract: the slot size first, then the store's length. Assumes nothing.
 use mathlib.Core.Path.{sym, _∙_}
 use borrow.Author.Needs.{needs}
 use borrow.Author.Tests.{not-true, not-false}

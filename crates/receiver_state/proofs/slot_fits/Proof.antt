@@ -1,4 +1,4 @@
--- `slots::slot_fits` meets its contract: the two bounds, one test each. Assumes nothing.
+-- `receiver_state::slot_fits` meets its contract: the two bounds, one test each. Assumes nothing.
 use borrow.Author.Tests.{le-leb, lt-leb}
 use Rattle.receiver_state.specs.Rules.{slotFits}
 use Rattle.receiver_state.proofs.slot_fits.Statement.{statement}

@@ -1,4 +1,4 @@
--- `slots::slots_hold` meets its contract: the slots of next to highest are one run of the table, or two that meet at its ends. Assumes nothing.
+-- `receiver_state::slots_hold` meets its contract: the slots of next to highest are one run of the table, or two that meet at its ends. Assumes nothing.
 use mathlib.Core.Path.{refl, _∙_}
 use denote.Ref.{now}
 use Rattle.receiver_state.proofs.Bands.{one-run, two-runs}

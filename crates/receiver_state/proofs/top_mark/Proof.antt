@@ -1,4 +1,4 @@
--- `slots::top_mark` meets its contract: a mark has 16 bits, so where slot + 1 has more every mark is at most it. Assumes nothing.
+-- `receiver_state::top_mark` meets its contract: a mark has 16 bits, so where slot + 1 has more every mark is at most it. Assumes nothing.
 use native.Mathlib.Omega.{arith}
 use borrow.Author.Needs.{needs}
 use Rattle.receiver_state.proofs.top_mark.Statement.{statement}

@@ -1,4 +1,4 @@
--- `slots::within` meets its contract: after i turns the flag says of the first i marks whether each is at most top. Assumes nothing.
+-- `receiver_state::within` meets its contract: after i turns the flag says of the first i marks whether each is at most top. Assumes nothing.
 use Prim.Native.Nat.{_-_}
 use mathlib.Core.Path.{refl, _∙_}
 use borrow.Author.Needs.{needs}

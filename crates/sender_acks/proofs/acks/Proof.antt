@@ -1,4 +1,4 @@
--- `acks::acks` meets its contract: the judge refuses, or nothing keeps it from being done. Assumes nothing.
+-- `sender_acks::acks` meets its contract: the judge refuses, or nothing keeps it from being done. Assumes nothing.
 use mathlib.Core.Path.{_∙_}
 use denote.Ref.{now}
 use Rattle.sender_acks.proofs.Freeing.{acks-kept, acks-pass, acks-rules}

@@ -1,4 +1,4 @@
--- `rules::all_alone` meets its contract: the quick test tells it, or after i turns the flag speaks of the first i numbers. Assumes nothing.
+-- `sender_check::all_alone` meets its contract: the quick test tells it, or after i turns the flag speaks of the first i numbers. Assumes nothing.
 use Prim.Native.Nat.{_-_, _≤_}
 use mathlib.Core.Path.{_≡_, sym}
 use native.Mathlib.Omega.{arith}

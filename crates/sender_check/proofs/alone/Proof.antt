@@ -1,4 +1,4 @@
--- `rules::alone` meets its contract: 0 is the exception, and any other number is looked for in the part before it. Assumes nothing.
+-- `sender_check::alone` meets its contract: 0 is the exception, and any other number is looked for in the part before it. Assumes nothing.
 use mathlib.Core.Path.{_∙_}
 use native.Mathlib.Nat.{sub-zero}
 use borrow.Author.Tests.{eq-eqb, ne-eqb}

@@ -1,4 +1,4 @@
--- `rules::place_holds` meets its contract: the tests that led to each return are the rungs of the definition. Assumes nothing.
+-- `sender_check::place_holds` meets its contract: the tests that led to each return are the rungs of the definition. Assumes nothing.
 use borrow.Author.Tests.{eq-eqb, ne-eqb, lt-ltb, le-ltb, le-leb, lt-leb}
 use Rattle.sender_check.specs.Steps.{placeHolds}
 use borrow.Author.Needs.{needs}

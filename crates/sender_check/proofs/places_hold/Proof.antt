@@ -1,4 +1,4 @@
--- `rules::places_hold` meets its contract: after i turns the flag speaks of the first i places. Assumes nothing.
+-- `sender_check::places_hold` meets its contract: after i turns the flag speaks of the first i places. Assumes nothing.
 use Prim.Native.Nat.{_-_, _≤_}
 use mathlib.Core.Path.{_≡_}
 use native.Mathlib.Omega.{arith}

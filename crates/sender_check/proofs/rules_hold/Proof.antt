@@ -1,4 +1,4 @@
--- `rules::rules_hold` meets its contract: each early return breaks a rule, and at the end the places' own rules are left. Assumes nothing.
+-- `sender_check::rules_hold` meets its contract: each early return breaks a rule, and at the end the places' own rules are left. Assumes nothing.
 use mathlib.Core.Path.{sym, _∙_}
 use mathlib.Core.Bool.{true≢false}
 use native.Mathlib.Omega.{arith}

@@ -1,4 +1,4 @@
--- `rules::spread` meets its contract: a number whose remainder no number before it has is none of them. Assumes nothing.
+-- `sender_check::spread` meets its contract: a number whose remainder no number before it has is none of them. Assumes nothing.
 use Prim.Native.Nat.{_-_}
 use lib.ListN.{length}
 use Rattle.sender_check.proofs.Buckets.{Spreads, spreads-start, spreads-more, spreads-end}

@@ -1,4 +1,4 @@
--- `rules::timer_fits` meets its contract: each arm knows the variant. Assumes nothing.
+-- `sender_check::timer_fits` meets its contract: each arm knows the variant. Assumes nothing.
 use Rattle.sender_state.specs.Rules.{timerFits}
 use borrow.Author.Needs.{needs}
 use Rattle.sender_check.proofs.timer_fits.Statement.{statement}

@@ -1,4 +1,4 @@
--- `rules::timing_fits` meets its contract: each arm knows the variant. Assumes nothing.
+-- `sender_check::timing_fits` meets its contract: each arm knows the variant. Assumes nothing.
 use Rattle.timer.specs.Timer.{timingFits}
 use borrow.Author.Needs.{needs}
 use Rattle.sender_check.proofs.timing_fits.Statement.{statement}

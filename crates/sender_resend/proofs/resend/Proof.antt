@@ -1,4 +1,4 @@
--- `resend::resend` meets its contract: the judge refuses, or nothing keeps it from being done. Assumes nothing.
+-- `sender_resend::resend` meets its contract: the judge refuses, or nothing keeps it from being done. Assumes nothing.
 use mathlib.Core.Path.{_∙_}
 use Rattle.sender_resend.proofs.Resending.{resend-kept, resend-pass, resend-fair}
 use borrow.Author.Needs.{needs}

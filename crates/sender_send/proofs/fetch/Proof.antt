@@ -1,4 +1,4 @@
--- `sender::fetch` meets its contract: at each return the tests that led there decide the ladder, and a ranked packet lies within its place. Assumes nothing.
+-- `sender_send::fetch` meets its contract: at each return the tests that led there decide the ladder, and a ranked packet lies within its place. Assumes nothing.
 use Prim.Native.Nat.{_≤_, _<_}
 use mathlib.Core.Path.{_≡_, sym, _∙_, ap}
 use mathlib.Core.Bool.{true}

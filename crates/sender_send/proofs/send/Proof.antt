@@ -1,4 +1,4 @@
--- `sender::send` meets its contract: the judge has the answer, and where a packet leaves it lies within its place. Assumes nothing.
+-- `sender_send::send` meets its contract: the judge has the answer, and where a packet leaves it lies within its place. Assumes nothing.
 use Prim.Native.Nat.{_≤_}
 use mathlib.Core.Path.{_≡_, sym, _∙_, ap}
 use mathlib.Core.List.{[], _∷_}

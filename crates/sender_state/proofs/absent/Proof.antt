@@ -1,4 +1,4 @@
--- `places::absent` meets its contract: after i turns the flag says of the first i numbers whether each differs from x. Assumes nothing.
+-- `sender_state::absent` meets its contract: after i turns the flag says of the first i numbers whether each differs from x. Assumes nothing.
 use Prim.Native.Nat.{_-_}
 use mathlib.Core.Path.{refl, _∙_}
 use lib.ListN.{length}

@@ -1,4 +1,4 @@
--- `places::candidate` meets its contract: the tests that led to each return are the rungs of the definition. Assumes nothing.
+-- `sender_state::candidate` meets its contract: the tests that led to each return are the rungs of the definition. Assumes nothing.
 use borrow.Author.Tests.{eq-eqb, ne-eqb, lt-ltb, le-ltb}
 use Rattle.sender_state.specs.Steps.{candidateOf}
 use Rattle.sender_state.proofs.candidate.Statement.{statement}

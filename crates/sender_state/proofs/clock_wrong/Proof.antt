@@ -1,4 +1,4 @@
--- `places::clock_wrong` meets its contract: it is the definition. Assumes nothing.
+-- `sender_state::clock_wrong` meets its contract: it is the definition. Assumes nothing.
 use mathlib.Core.Path.{refl}
 use Rattle.sender_state.specs.Rules.{clockWrong}
 use Rattle.sender_state.proofs.clock_wrong.Statement.{statement}

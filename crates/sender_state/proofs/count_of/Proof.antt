@@ -1,4 +1,4 @@
--- `places::count_of` meets its contract: after i turns n counts among the first i marks. Assumes nothing.
+-- `sender_state::count_of` meets its contract: after i turns n counts among the first i marks. Assumes nothing.
 use Prim.Native.Nat.{_-_, _≤_}
 use mathlib.Core.Path.{_≡_, refl, _∙_, ap}
 use native.Mathlib.Omega.{arith}

@@ -1,4 +1,4 @@
--- `places::counts_fit` meets its contract: each test that fails is one of the definition's. Assumes nothing.
+-- `sender_state::counts_fit` meets its contract: each test that fails is one of the definition's. Assumes nothing.
 use borrow.Author.Tests.{le-leb, lt-leb}
 use Rattle.sender_state.specs.Rules.{countsFit}
 use Rattle.sender_state.proofs.counts_fit.Statement.{statement}

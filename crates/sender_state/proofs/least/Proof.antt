@@ -1,4 +1,4 @@
--- `places::least` meets its contract: after i turns low is the lowest number sought among the first i places. Assumes nothing.
+-- `sender_state::least` meets its contract: after i turns low is the lowest number sought among the first i places. Assumes nothing.
 use Prim.Native.Nat.{_-_, _≤_}
 use mathlib.Core.Path.{_≡_, _∙_, ap}
 use native.Mathlib.Omega.{arith}

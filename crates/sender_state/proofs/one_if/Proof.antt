@@ -1,4 +1,4 @@
--- `places::one_if` meets its contract. Assumes nothing.
+-- `sender_state::one_if` meets its contract. Assumes nothing.
 use borrow.Author.Tests.{eq-eqb, ne-eqb}
 use Rattle.sender_state.proofs.one_if.Statement.{statement}
 use Rattle.sender_state.proofs.one_if.Tie as tie

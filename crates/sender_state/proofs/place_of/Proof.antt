@@ -1,4 +1,4 @@
--- `places::place_of` meets its contract: the number stands at none of the first i indices. Assumes nothing.
+-- `sender_state::place_of` meets its contract: the number stands at none of the first i indices. Assumes nothing.
 use Prim.Native.Nat.{_+_, _-_, _≤_}
 use mathlib.Core.Path.{_≡_}
 use native.Mathlib.Omega.{arith}

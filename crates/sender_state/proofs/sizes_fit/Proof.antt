@@ -1,4 +1,4 @@
--- `places::sizes_fit` meets its contract: the second test is read off only where the first passes. Assumes nothing.
+-- `sender_state::sizes_fit` meets its contract: the second test is read off only where the first passes. Assumes nothing.
 use Prim.Native.Nat.{_+_}
 use mathlib.Core.Path.{_≡_, sym, _∙_}
 use mathlib.Core.Bool.{true}

@@ -1,4 +1,4 @@
--- `places::start` meets its contract: at each return the tests that led there decide the ladder. Assumes nothing.
+-- `sender_state::start` meets its contract: at each return the tests that led there decide the ladder. Assumes nothing.
 use mathlib.Core.Path.{sym, _∙_}
 use borrow.Author.Tests.{eq-eqb, ne-eqb, not-true, not-false}
 use Rattle.sender_state.specs.Start.{startSaid}

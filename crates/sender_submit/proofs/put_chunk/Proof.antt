@@ -1,4 +1,4 @@
--- `submit::put_chunk` meets its contract: the place has room for a chunk's packet, so that the writer never refuses it. Assumes nothing.
+-- `sender_submit::put_chunk` meets its contract: the place has room for a chunk's packet, so that the writer never refuses it. Assumes nothing.
 use Prim.Native.Nat.{_+_, _≤_}
 use native.Mathlib.Omega.{arith}
 use lib.ListN.{length}

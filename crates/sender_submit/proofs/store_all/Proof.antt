@@ -1,4 +1,4 @@
--- `submit::store_all` meets its contract: what is left to store gives the same whole at each turn. Assumes nothing.
+-- `sender_submit::store_all` meets its contract: what is left to store gives the same whole at each turn. Assumes nothing.
 use Prim.Native.Nat.{_<_}
 use mathlib.Core.Path.{_≡_, sym}
 use native.Mathlib.Omega.{arith}

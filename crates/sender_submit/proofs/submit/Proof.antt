@@ -1,4 +1,4 @@
--- `submit::submit` meets its contract: the judge refuses, or counts packets for which there is room. Assumes nothing.
+-- `sender_submit::submit` meets its contract: the judge refuses, or counts packets for which there is room. Assumes nothing.
 use denote.Ref.{now}
 use Rattle.sender_submit.proofs.Ways.{submit-kept, submit-asks, submit-made}
 use borrow.Author.Needs.{needs}

@@ -1,4 +1,4 @@
--- `submit::submit_done` meets its contract: the NACKs stand at the table's front, and the packets have the receiver's ack fields. Assumes nothing.
+-- `sender_submit::submit_done` meets its contract: the NACKs stand at the table's front, and the packets have the receiver's ack fields. Assumes nothing.
 use Prim.Native.Nat.{_≤_}
 use mathlib.Core.Path.{_≡_, sym}
 use lib.ListN.{length, take}

@@ -1,4 +1,4 @@
--- `submit_answer::judge` meets its contract: at each return the tests that led there decide the ladder. Assumes nothing.
+-- `sender_submit_answer::judge` meets its contract: at each return the tests that led there decide the ladder. Assumes nothing.
 use Prim.Native.Nat.{_+_, _-_, _≤_}
 use mathlib.Core.Path.{_≡_, sym, _∙_}
 use mathlib.Core.Bool.{true, false, _&&_, _||_}

@@ -1,4 +1,4 @@
--- `packet::area::after_destination` meets its contract: each test is a rung of the ladder, at the places that the definition names. Assumes nothing.
+-- `packet_read::area::after_destination` meets its contract: each test is a rung of the ladder, at the places that the definition names. Assumes nothing.
 use Prim.Native.Nat.{_+_, _-_}
 use mathlib.Core.Path.{_≡_, sym, _∙_}
 use native.Mathlib.Omega.{arith}

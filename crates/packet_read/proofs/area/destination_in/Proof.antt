@@ -1,4 +1,4 @@
--- `packet::area::destination_in` meets its contract: each test is a rung of the ladder. Assumes nothing.
+-- `packet_read::area::destination_in` meets its contract: each test is a rung of the ladder. Assumes nothing.
 use Rattle.packet_read.proofs.Ways.{short-key, wrong-type, short-certificate, cut-certificate, wrong-key, whole}
 use borrow.Author.Needs.{needs}
 use Rattle.packet_read.proofs.area.destination_in.Statement.{statement}

@@ -1,4 +1,4 @@
--- `packet::area::destination_size` meets its contract: with the bit set it is `destination_in`. Assumes nothing.
+-- `packet_read::area::destination_size` meets its contract: with the bit set it is `destination_in`. Assumes nothing.
 use borrow.Author.Needs.{needs}
 use Rattle.packet_read.proofs.area.destination_size.Statement.{statement}
 use Rattle.packet_read.proofs.area.destination_size.Tie as tie

@@ -1,4 +1,4 @@
--- `packet::area::options` meets its contract: the delay, then the destination, then what follows it. Assumes nothing.
+-- `packet_read::area::options` meets its contract: the delay, then the destination, then what follows it. Assumes nothing.
 use Prim.Native.Nat.{_+_}
 use mathlib.Core.Path.{_≡_, sym, _∙_, ap}
 use denote.Ref.{now}

@@ -1,4 +1,4 @@
--- `packet::area::signature_size` meets its contract: each branch is a case of the definition. Assumes nothing.
+-- `packet_read::area::signature_size` meets its contract: each branch is a case of the definition. Assumes nothing.
 use borrow.Author.Tests.{not-true, not-false}
 use Rattle.packet_read.proofs.area.signature_size.Statement.{statement}
 use Rattle.packet_read.proofs.area.signature_size.Tie as tie

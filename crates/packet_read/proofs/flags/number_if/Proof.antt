@@ -1,4 +1,4 @@
--- `packet::flags::number_if` meets its contract: with the bit set it is `be16`. Assumes nothing.
+-- `packet_read::flags::number_if` meets its contract: with the bit set it is `be16`. Assumes nothing.
 use borrow.Author.Needs.{needs}
 use Rattle.packet_read.proofs.flags.number_if.Statement.{statement}
 use Rattle.packet_read.proofs.flags.number_if.Tie as tie

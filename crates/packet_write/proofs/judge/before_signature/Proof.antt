@@ -1,4 +1,4 @@
--- `writer::judge::before_signature` meets its contract: an absent option is no byte. Assumes nothing.
+-- `packet_write::judge::before_signature` meets its contract: an absent option is no byte. Assumes nothing.
 use native.Mathlib.Omega.{arith}
 use borrow.Author.Needs.{needs}
 use Rattle.packet_write.proofs.judge.before_signature.Statement.{statement}

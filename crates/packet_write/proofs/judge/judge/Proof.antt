@@ -1,4 +1,4 @@
--- `writer::judge::judge` meets its contract: each test is a rung of the ladder, and then the lengths are. Assumes nothing.
+-- `packet_write::judge::judge` meets its contract: each test is a rung of the ladder, and then the lengths are. Assumes nothing.
 use Prim.Native.Nat.{_≤_}
 use mathlib.Core.Path.{_≡_, sym, _∙_}
 use mathlib.Core.Bool.{false, _&&_, not}

@@ -1,4 +1,4 @@
--- `writer::judge::other_form` meets its contract: without the bit it is false, and with it `is_destination` decides. Assumes nothing.
+-- `packet_write::judge::other_form` meets its contract: without the bit it is false, and with it `is_destination` decides. Assumes nothing.
 use borrow.Author.Tests.{not-true, not-false}
 use borrow.Author.Needs.{needs}
 use Rattle.packet_write.proofs.judge.other_form.Statement.{statement}

@@ -1,4 +1,4 @@
--- `writer::judge::other_length` meets its contract: each branch is a case of the definition. Assumes nothing.
+-- `packet_write::judge::other_length` meets its contract: each branch is a case of the definition. Assumes nothing.
 use borrow.Author.Tests.{not-true, not-false}
 use Rattle.packet_write.proofs.judge.other_length.Statement.{statement}
 use Rattle.packet_write.proofs.judge.other_length.Tie as tie

@@ -1,4 +1,4 @@
--- `writer::judge::part_long` meets its contract: each test is of one length. Assumes nothing.
+-- `packet_write::judge::part_long` meets its contract: each test is of one length. Assumes nothing.
 use mathlib.Core.Bool.{true≢false}
 use native.Mathlib.Omega.{arith}
 use borrow.Author.Tests.{ltb-true, ltb-false}

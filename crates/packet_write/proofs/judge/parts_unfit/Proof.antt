@@ -1,4 +1,4 @@
--- `writer::judge::parts_unfit` meets its contract: the four tests are joined as the definition joins them. Assumes nothing.
+-- `packet_write::judge::parts_unfit` meets its contract: the four tests are joined as the definition joins them. Assumes nothing.
 use borrow.Author.Needs.{needs}
 use Rattle.packet_write.proofs.judge.parts_unfit.Statement.{statement}
 use Rattle.packet_write.proofs.judge.parts_unfit.Tie as tie

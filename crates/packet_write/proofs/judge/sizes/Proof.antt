@@ -1,4 +1,4 @@
--- `writer::judge::sizes` meets its contract: a part above 65,535 makes the packet longer than that, and else the sum is the definition's. Assumes nothing.
+-- `packet_write::judge::sizes` meets its contract: a part above 65,535 makes the packet longer than that, and else the sum is the definition's. Assumes nothing.
 use Prim.Native.Nat.{_+_, _*_, _≤_}
 use mathlib.Core.Path.{_≡_, _∙_}
 use native.Mathlib.Omega.{arith}

@@ -1,4 +1,4 @@
--- `writer::judge::unfit` meets its contract: each branch is a case of the definition. Assumes nothing.
+-- `packet_write::judge::unfit` meets its contract: each branch is a case of the definition. Assumes nothing.
 use borrow.Author.Needs.{needs}
 use Rattle.packet_write.proofs.judge.unfit.Statement.{statement}
 use Rattle.packet_write.proofs.judge.unfit.Tie as tie

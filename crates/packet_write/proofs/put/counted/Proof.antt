@@ -1,4 +1,4 @@
--- `writer::put::counted` meets its contract: the NACKs go behind their count. Assumes nothing.
+-- `packet_write::put::counted` meets its contract: the NACKs go behind their count. Assumes nothing.
 use mathlib.Core.Path.{refl}
 use native.Mathlib.Omega.{arith}
 use lib.ListN.{length}

@@ -1,4 +1,4 @@
--- `writer::put::flagged` meets its contract: each number goes behind the last. Assumes nothing.
+-- `packet_write::put::flagged` meets its contract: each number goes behind the last. Assumes nothing.
 use mathlib.Core.Path.{refl}
 use native.Mathlib.Omega.{arith}
 use denote.Ref.{now}

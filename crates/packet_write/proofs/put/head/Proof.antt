@@ -1,4 +1,4 @@
--- `writer::put::head` meets its contract: each part goes behind the last. Assumes nothing.
+-- `packet_write::put::head` meets its contract: each part goes behind the last. Assumes nothing.
 use Prim.Native.Nat.{ℕ, _+_, _*_}
 use mathlib.Core.Path.{refl, _∙_, ap}
 use mathlib.Core.List.{List, _++_}

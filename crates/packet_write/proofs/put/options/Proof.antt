@@ -1,4 +1,4 @@
--- `writer::put::options` meets its contract: each option goes behind the last, and an absent one is no byte. Assumes nothing.
+-- `packet_write::put::options` meets its contract: each option goes behind the last, and an absent one is no byte. Assumes nothing.
 use Prim.Native.Nat.{ℕ, _+_, _-_}
 use mathlib.Core.Path.{_≡_, sym, _∙_, ap}
 use mathlib.Core.List.{_++_}

@@ -1,4 +1,4 @@
--- `writer::put::packet` meets its contract: the head, the options behind it, and the payload behind them. Assumes nothing.
+-- `packet_write::put::packet` meets its contract: the head, the options behind it, and the payload behind them. Assumes nothing.
 use Prim.Native.Nat.{ℕ, _+_, _-_, _*_}
 use mathlib.Core.Path.{_≡_, _∙_, ap}
 use mathlib.Core.List.{List, _++_, append-assoc}

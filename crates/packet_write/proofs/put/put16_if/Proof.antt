@@ -1,4 +1,4 @@
--- `writer::put::put16_if` meets its contract: with the option there it is `put16`, and without it nothing is written. Assumes nothing.
+-- `packet_write::put::put16_if` meets its contract: with the option there it is `put16`, and without it nothing is written. Assumes nothing.
 use borrow.Author.Needs.{needs}
 use Rattle.packet_write.proofs.put.put16_if.Statement.{statement}
 use Rattle.packet_write.proofs.put.put16_if.Tie as tie

@@ -1,4 +1,4 @@
--- `acks::acking::acked_flag` meets its contract: the tests that led to each return decide the definition. Assumes nothing.
+-- `sender_acks::acking::acked_flag` meets its contract: the tests that led to each return decide the definition. Assumes nothing.
 use mathlib.Core.Path.{sym, _∙_}
 use borrow.Author.Tests.{eq-eqb, ne-eqb, le-leb, lt-leb}
 use borrow.Author.Needs.{needs}

@@ -1,4 +1,4 @@
--- `acks::acking::acked_flags` meets its contract: after i turns the first i places are flagged. Assumes nothing.
+-- `sender_acks::acking::acked_flags` meets its contract: after i turns the first i places are flagged. Assumes nothing.
 use Prim.Native.Nat.{_-_}
 use mathlib.Core.Path.{refl}
 use Rattle.sender_acks.specs.Acks.{ackedAt}

@@ -1,4 +1,4 @@
--- `acks::acking::acks_done` meets its contract: the flags say which places are acknowledged, and the samples are theirs. Assumes nothing.
+-- `sender_acks::acking::acks_done` meets its contract: the flags say which places are acknowledged, and the samples are theirs. Assumes nothing.
 use Prim.Native.Nat.{_≤_}
 use mathlib.Core.Path.{_≡_}
 use native.Mathlib.Omega.{arith}

@@ -1,4 +1,4 @@
--- `acks::acking::freed` meets its contract: each array is lent in turn. Assumes nothing.
+-- `sender_acks::acking::freed` meets its contract: each array is lent in turn. Assumes nothing.
 use mathlib.Core.Path.{_≡_}
 use lib.ListN.{length}
 use borrow.Author.Needs.{needs}

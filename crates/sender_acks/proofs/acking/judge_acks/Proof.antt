@@ -1,4 +1,4 @@
--- `acks::acking::judge_acks` meets its contract: at each return the tests that led there decide the ladder. Assumes nothing.
+-- `sender_acks::acking::judge_acks` meets its contract: at each return the tests that led there decide the ladder. Assumes nothing.
 use mathlib.Core.Path.{_≡_, sym, _∙_}
 use mathlib.Core.Bool.{true, false}
 use borrow.Author.Tests.{lt-ltb, le-ltb, not-true, not-false}

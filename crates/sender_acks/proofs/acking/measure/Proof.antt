@@ -1,4 +1,4 @@
--- `acks::acking::measure` meets its contract: low heads the numbers whose samples are still to be taken. Assumes nothing.
+-- `sender_acks::acking::measure` meets its contract: low heads the numbers whose samples are still to be taken. Assumes nothing.
 use Prim.Native.Nat.{_+_, _-_, _<_, min}
 use mathlib.Core.Path.{_∙_, ap}
 use native.Mathlib.Omega.{arith}

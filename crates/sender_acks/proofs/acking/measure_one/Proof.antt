@@ -1,4 +1,4 @@
--- `acks::acking::measure_one` meets its contract: the two callees give the next numbers. Assumes nothing.
+-- `sender_acks::acking::measure_one` meets its contract: the two callees give the next numbers. Assumes nothing.
 use borrow.Author.Needs.{needs}
 use Rattle.sender_acks.proofs.acking.measure_one.Statement.{statement}
 use Rattle.sender_acks.proofs.acking.measure_one.Tie as tie

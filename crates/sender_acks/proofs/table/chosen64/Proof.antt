@@ -1,4 +1,4 @@
--- `acks::table::chosen64` meets its contract. Assumes nothing.
+-- `sender_acks::table::chosen64` meets its contract. Assumes nothing.
 use borrow.Author.Tests.{eq-eqb, ne-eqb}
 use Rattle.sender_acks.proofs.table.chosen64.Statement.{statement}
 use Rattle.sender_acks.proofs.table.chosen64.Tie as tie

@@ -1,4 +1,4 @@
--- `resend::again::due` meets its contract: each arm knows the variant. Assumes nothing.
+-- `sender_resend::again::due` meets its contract: each arm knows the variant. Assumes nothing.
 use Rattle.sender_resend.specs.Resend.{isDue}
 use borrow.Author.Needs.{needs}
 use Rattle.sender_resend.proofs.again.due.Statement.{statement}

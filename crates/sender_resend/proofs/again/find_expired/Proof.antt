@@ -1,4 +1,4 @@
--- `resend::again::find_expired` meets its contract: the numbers in flight below end are old, and low heads the rest. Assumes nothing.
+-- `sender_resend::again::find_expired` meets its contract: the numbers in flight below end are old, and low heads the rest. Assumes nothing.
 use Prim.Native.Nat.{_-_, _<_}
 use native.Mathlib.Omega.{arith}
 use Rattle.sender_resend.proofs.Expiry.{Expiring, expire-start, expire-some, expire-place, expire-none, expire-young, expire-more, expire-full}

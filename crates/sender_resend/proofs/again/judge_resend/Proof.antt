@@ -1,4 +1,4 @@
--- `resend::again::judge_resend` meets its contract: at each return the tests that led there decide the ladder. Assumes nothing.
+-- `sender_resend::again::judge_resend` meets its contract: at each return the tests that led there decide the ladder. Assumes nothing.
 use mathlib.Core.Path.{_≡_, sym, _∙_}
 use mathlib.Core.Bool.{true, false}
 use borrow.Author.Tests.{not-true, not-false}

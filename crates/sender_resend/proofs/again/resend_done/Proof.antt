@@ -1,4 +1,4 @@
--- `resend::again::resend_done` meets its contract: each way out is one of document 01's. Assumes nothing.
+-- `sender_resend::again::resend_done` meets its contract: each way out is one of document 01's. Assumes nothing.
 use Prim.Native.Nat.{ℕ, _+_, _≤_, _<_}
 use mathlib.Core.Path.{_≡_, _∙_, ap}
 use native.Mathlib.Omega.{arith}

@@ -1,4 +1,4 @@
--- `resend::again::stamp` meets its contract: the tests that led to each return decide the definition. Assumes nothing.
+-- `sender_resend::again::stamp` meets its contract: the tests that led to each return decide the definition. Assumes nothing.
 use borrow.Author.Tests.{eq-eqb, ne-eqb, lt-ltb, le-ltb}
 use Rattle.sender_resend.proofs.again.stamp.Statement.{statement}
 use Rattle.sender_resend.proofs.again.stamp.Tie as tie

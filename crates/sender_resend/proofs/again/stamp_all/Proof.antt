@@ -1,4 +1,4 @@
--- `resend::again::stamp_all` meets its contract: after i turns the first i places are done. Assumes nothing.
+-- `sender_resend::again::stamp_all` meets its contract: after i turns the first i places are done. Assumes nothing.
 use Prim.Native.Nat.{_-_}
 use Rattle.sender_resend.specs.Steps.{flyingBelow}
 use Rattle.sender_state.proofs.Replaced.{Replacing, replace-start, replace-more, replace-end}

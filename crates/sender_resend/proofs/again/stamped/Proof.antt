@@ -1,4 +1,4 @@
--- `resend::again::stamped` meets its contract: the send times are lent beside the numbers and the marks, and the window falls. Assumes nothing.
+-- `sender_resend::again::stamped` meets its contract: the send times are lent beside the numbers and the marks, and the window falls. Assumes nothing.
 use Prim.Native.Nat.{_+_}
 use Rattle.timer.specs.declared.Timing.the-variants as G
 use Rattle.sender_state.specs.declared.Timer.the-variants as T

@@ -1,4 +1,4 @@
--- `sender::going::arm` meets its contract: each arm knows the variant. Assumes nothing.
+-- `sender_send::going::arm` meets its contract: each arm knows the variant. Assumes nothing.
 use Rattle.sender_send.specs.Send.{armed}
 use borrow.Author.Needs.{needs}
 use Rattle.sender_send.proofs.going.arm.Statement.{statement}

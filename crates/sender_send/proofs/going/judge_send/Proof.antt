@@ -1,4 +1,4 @@
--- `sender::going::judge_send` meets its contract: at each return the tests that led there decide the ladder. Assumes nothing.
+-- `sender_send::going::judge_send` meets its contract: at each return the tests that led there decide the ladder. Assumes nothing.
 use Prim.Native.Nat.{_≤_, _<_}
 use mathlib.Core.Path.{_≡_, sym, _∙_, ap}
 use mathlib.Core.Bool.{true, false}

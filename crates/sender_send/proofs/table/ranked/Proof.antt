@@ -1,4 +1,4 @@
--- `sender::table::ranked` meets its contract: after k turns low heads what is left of the numbers from rank k on. Assumes nothing.
+-- `sender_send::table::ranked` meets its contract: after k turns low heads what is left of the numbers from rank k on. Assumes nothing.
 use Prim.Native.Nat.{_-_}
 use Rattle.sender_send.proofs.Ranks.{Walked, walk-start, walk-more, walk-none, walk-end}
 use borrow.Author.Needs.{needs}
