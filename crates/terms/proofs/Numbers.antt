@@ -1,11 +1,11 @@
 -- No two refusals share a number, and none has 0: what a promise says by numbers determines the refusal. Assumes nothing.
-use Prim.Native.Nat.{ℕ, _-_, _<_}
+use Prim.Native.Nat.{ℕ, _<_}
 use mathlib.Core.Path.{_≡_, refl, sym, _∙_, ap}
 use mathlib.Core.Bool.{true}
 use mathlib.Core.List.{List, [], _∷_}
 use borrow.Author.Tests.{ltb-true}
-use lib.Dec.{ltb}
-use lib.ListN.{getD}
+use lib.Dec.{eqb, ltb}
+use Rattle.terms.specs.Ladder.{_when_else_}
 use Rattle.terms.specs.Refusals.{numberOf}
 use Rattle.terms.specs.declared.Refusal.{Refusal}
 use Rattle.terms.specs.declared.Refusal.the-variants as R
@@ -16,15 +16,19 @@ table =
     R.OfflineBlock ∷ R.OutputShort ∷ R.NacksMany ∷ R.PartsUnfit ∷ R.SizeWrong ∷
     R.StateBroken ∷ R.LastNumber ∷ R.BelowNext ∷ R.BeyondSpan ∷ R.AlreadyHeld ∷
     R.PayloadLong ∷ R.NothingThere ∷ R.SlotsFew ∷ R.SubmitLength ∷ R.NumbersSpent ∷
-    R.PacketsWait ∷ R.WindowFull ∷ R.AckBeyond ∷ R.ClockWrong ∷ R.TimerEarly ∷ []
+    R.PacketsWait ∷ R.WindowFull ∷ R.AckBeyond ∷ R.ClockWrong ∷ R.TimerEarly ∷
+    R.LengthUnfit ∷ R.TimeLarge ∷ []
 
--- the refusal of a number
+-- the refusal of a number: the first that has it
+firstWith : ℕ → List Refusal → Refusal
+firstWith n [] = R.PacketShort
+firstWith n (r ∷ rs) = r when eqb (numberOf r) n else firstWith n rs
+
 refusalOf : ℕ → Refusal
-unfolding table
-refusalOf n = getD table (n - 1) R.PacketShort
+refusalOf n = firstWith n table
 
 back : (r : Refusal) → (refusalOf (numberOf r) ≡ r) × (ltb 0 (numberOf r) ≡ true)
-unfolding refusalOf table
+unfolding refusalOf firstWith table
 back R.PacketShort = (refl, refl)
 back R.PacketLong = (refl, refl)
 back R.OptionCut = (refl, refl)
@@ -50,6 +54,8 @@ back R.WindowFull = (refl, refl)
 back R.AckBeyond = (refl, refl)
 back R.ClockWrong = (refl, refl)
 back R.TimerEarly = (refl, refl)
+back R.LengthUnfit = (refl, refl)
+back R.TimeLarge = (refl, refl)
 
 pub number-one : (a b : Refusal) → numberOf a ≡ numberOf b → a ≡ b
 number-one a b e = sym (back a .0) ∙ ap refusalOf e ∙ back b .0

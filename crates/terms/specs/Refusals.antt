@@ -1,4 +1,4 @@
--- Document 01's table of refusals: the number of each.
+-- Document 01's table of refusals, and those of document 02: the number of each.
 use Prim.Native.Nat.{ℕ}
 use Rattle.terms.specs.declared.Refusal.{Refusal}
 use Rattle.terms.specs.declared.Refusal.the-variants as R
@@ -29,3 +29,5 @@ numberOf R.WindowFull = 22
 numberOf R.AckBeyond = 23
 numberOf R.ClockWrong = 24
 numberOf R.TimerEarly = 25
+numberOf R.LengthUnfit = 30
+numberOf R.TimeLarge = 31

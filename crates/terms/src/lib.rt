@@ -11,7 +11,7 @@ pub struct StreamId(pub u32);
 #[repr(C)]
 pub struct SeqNo(pub u32);
 
-// Document 01's refusals, in the order of its table. The comment is the table's own line.
+// Document 01's refusals, in the order of its table, whose own lines the comments are, and those that document 02 adds.
 pub enum Refusal {
     // packet shorter than 22, 22+4n or 22+4n+o
     PacketShort,
@@ -63,10 +63,14 @@ pub enum Refusal {
     ClockWrong,
     // timer unarmed or not due
     TimerEarly,
+    // length on a serial line under 22, or above the lent buffer
+    LengthUnfit,
+    // time to smooth above 4,294,967,295
+    TimeLarge,
 }
 
 impl Refusal {
-    // The number that document 01's table gives to the refusal.
+    // The number that the documents give to the refusal.
     pub fn number(self) -> u32
         ensures { λ r. ⌜ r ≡ numberOf self ⌝ }
     {
@@ -96,6 +100,8 @@ impl Refusal {
             Refusal::AckBeyond => 23,
             Refusal::ClockWrong => 24,
             Refusal::TimerEarly => 25,
+            Refusal::LengthUnfit => 30,
+            Refusal::TimeLarge => 31,
         }
     }
 }
