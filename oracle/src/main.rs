@@ -7,6 +7,7 @@ mod common;
 mod host;
 mod hostile;
 mod lamps;
+mod met;
 mod model;
 mod read;
 mod receive;
@@ -56,8 +57,8 @@ fn main() -> ExitCode {
                 "model" if action == "gen" => run::<hostile::Run>(topic, action, seed, count),
                 "model" => {
                     model::hand::check();
-                    model::seen::forget();
-                    run::<hostile::Run>(topic, action, seed, count) && model::seen::table()
+                    met::forget();
+                    run::<hostile::Run>(topic, action, seed, count) && met::table()
                 }
                 _ => return usage(),
             }

@@ -17,6 +17,7 @@ mod sending;
 use crate::{
     calls::{Buffer, Call},
     common::{Answer, Case, Random, Verdict},
+    met,
     model::answer::World,
 };
 
@@ -78,7 +79,7 @@ struct Draft {
 impl Draft {
     fn ask(&mut self, call: Call) {
         self.script.extend(call.script());
-        self.lines.push(self.world.answer(&call));
+        self.lines.push(met::answer(&mut self.world, &call));
     }
 
     /// Every call that uses a register, on the registers as they are at first.

@@ -3,9 +3,8 @@ use super::{
     ack::acknowledge,
     packet::{self, is_destination},
     receiver::{self, Receiver},
-    seen,
     sender::{self, Place, Sender},
-    sending, shapes, timer,
+    sending, timer,
     write::write,
     Refusal,
 };
@@ -29,30 +28,22 @@ impl Default for World {
     }
 }
 
-/// The refusal's number, or 0.
-fn code<T>(result: &Result<T, Refusal>) -> u64 {
-    result.as_ref().err().copied().unwrap_or(0)
+/// A call's line, and the refusal where it was refused.
+pub struct Line {
+    pub text: String,
+    pub refusal: Option<Refusal>,
+}
+
+/// The line of a call that refuses nothing.
+fn plain(text: String) -> Line {
+    Line { text, refusal: None }
 }
 
 impl World {
-    pub fn answer(&mut self, call: &Call) -> String {
-        self.look(call);
-        let shapes = shapes::of(self, call);
-        let line = self.line(call);
-        if line.split(' ').nth(1) == Some("0") {
-            shapes.into_iter().for_each(seen::shape);
-        }
-        line
-    }
-
-    fn line(&mut self, call: &Call) -> String {
+    pub fn answer(&mut self, call: &Call) -> Line {
         match call {
             Call::Read(packet) => read(packet),
-            Call::IsDestination(bytes) => {
-                let answer = is_destination(bytes).into();
-                seen::answer("destination", answer);
-                format!("destination {answer}")
-            }
+            Call::IsDestination(bytes) => plain(format!("destination {}", u8::from(is_destination(bytes)))),
             Call::Write { fields, output } => {
                 let mut output = output.bytes();
                 let result = write(fields, &mut output);
@@ -62,15 +53,11 @@ impl World {
             Call::Sample { before, sample } => {
                 let after = timer::sampled(*before, *sample);
                 let (rtt, deviation) = after.expect("sampled");
-                format!("sample {rtt} {deviation} {}", timer::rto(after))
+                plain(format!("sample {rtt} {deviation} {}", timer::rto(after)))
             }
-            Call::Grown(window) => format!("window {}", timer::grown(*window)),
-            Call::Fallen(window) => format!("window {}", timer::fallen(*window)),
-            Call::Valid => {
-                let valid = self.sender.broken().is_empty();
-                seen::answer("valid", valid.into());
-                format!("valid {}", u8::from(valid))
-            }
+            Call::Grown(window) => plain(format!("window {}", timer::grown(*window))),
+            Call::Fallen(window) => plain(format!("window {}", timer::fallen(*window))),
+            Call::Valid => plain(format!("valid {}", u8::from(self.sender.broken().is_empty()))),
             Call::Start { .. } | Call::SetReceiver(_) | Call::SetReceiverStore(_) => self.receiver_set(call),
             Call::Accept { .. } | Call::Take(_) | Call::Acknowledge { .. } => self.receiver_call(call),
             Call::Begin { .. } | Call::SetSender(_) | Call::SetSenderStore(_) => self.sender_set(call),
@@ -79,36 +66,7 @@ impl World {
         }
     }
 
-    /// Notes what a call finds wrong with the states that it meets: their rules, then sizes, then the clock.
-    fn look(&self, call: &Call) {
-        let (receiver_store, sender_store) = (Some(&self.receiver_store[..]), Some(&self.sender_store[..]));
-        let receiver = |store| [self.receiver.broken(), self.receiver.wrong(store)];
-        let sender = |store| [self.sender.broken(), self.sender.wrong(store)];
-        match call {
-            Call::Accept { .. } | Call::Take(_) => seen::wrong("receiver", &receiver(receiver_store)),
-            Call::Acknowledge { .. } => seen::wrong("receiver", &receiver(None)),
-            Call::Fetch { .. } => seen::wrong("sender", &sender(sender_store)),
-            Call::Submit { .. } => {
-                let (sender, receiver) = (sender(sender_store), receiver(None));
-                let which = |names: [&'static str; 2], kind: usize| {
-                    let wrong = [&sender[kind], &receiver[kind]].map(|found| !found.is_empty());
-                    names.into_iter().zip(wrong).filter(|(_, wrong)| *wrong).map(|(name, _)| name).collect()
-                };
-                seen::wrong("submit", &[which(sending::STATES, 0), which(sending::SIZES, 1)]);
-            }
-            Call::Send { clock, .. } => {
-                let [broken, sizes] = sender(sender_store);
-                seen::wrong("sender", &[broken, sizes, self.sender.clock_wrong(*clock)]);
-            }
-            Call::Acks { clock, .. } | Call::Resend { clock, .. } => {
-                let [broken, sizes] = sender(None);
-                seen::wrong("sender", &[broken, sizes, self.sender.clock_wrong(*clock)]);
-            }
-            _ => {}
-        }
-    }
-
-    fn receiver_set(&mut self, call: &Call) -> String {
+    fn receiver_set(&mut self, call: &Call) -> Line {
         match call {
             Call::Start { s, slot, store } => {
                 self.receiver_store = store.bytes();
@@ -118,17 +76,17 @@ impl World {
             }
             Call::SetReceiver(receiver) => {
                 self.receiver = receiver.clone();
-                format!("receiver {}", receiver_line(receiver))
+                plain(format!("receiver {}", receiver_line(receiver)))
             }
             Call::SetReceiverStore(store) => {
                 self.receiver_store = store.bytes();
-                format!("store {} {}", store.length, checksum(&self.receiver_store))
+                plain(format!("store {} {}", store.length, checksum(&self.receiver_store)))
             }
             _ => unreachable!("no setting of a receiver"),
         }
     }
 
-    fn receiver_call(&mut self, call: &Call) -> String {
+    fn receiver_call(&mut self, call: &Call) -> Line {
         let (receiver, store) = (&mut self.receiver, &mut self.receiver_store);
         match call {
             Call::Accept { number, payload } => {
@@ -150,7 +108,7 @@ impl World {
         }
     }
 
-    fn sender_set(&mut self, call: &Call) -> String {
+    fn sender_set(&mut self, call: &Call) -> Line {
         match call {
             Call::Begin { first, chunk, count, store } => {
                 self.sender_store = store.bytes();
@@ -160,24 +118,24 @@ impl World {
             }
             Call::SetSender(record) => {
                 self.sender = state_of(record);
-                format!("sender {}", sender_line(&self.sender))
+                plain(format!("sender {}", sender_line(&self.sender)))
             }
             Call::SetSenderStore(store) => {
                 self.sender_store = store.bytes();
-                format!("store {} {}", store.length, checksum(&self.sender_store))
+                plain(format!("store {} {}", store.length, checksum(&self.sender_store)))
             }
             _ => unreachable!("no setting of a sender"),
         }
     }
 
-    fn submit(&mut self, call: &Call) -> String {
+    fn submit(&mut self, call: &Call) -> Line {
         let Call::Submit { ids, bytes } = call else { unreachable!("no submit") };
         let result = sending::submit(&mut self.sender, &self.receiver, *ids, bytes, &mut self.sender_store);
         let state = format!("{} {}", sender_line(&self.sender), checksum(&self.sender_store));
         told("submit", &result, &format!("{} {state}", result.unwrap_or(0)))
     }
 
-    fn sender_call(&mut self, call: &Call) -> String {
+    fn sender_call(&mut self, call: &Call) -> Line {
         let (sender, store) = (&mut self.sender, &self.sender_store);
         match call {
             Call::Send { clock, output } => {
@@ -205,16 +163,14 @@ impl World {
     }
 }
 
-fn told<T>(word: &'static str, result: &Result<T, Refusal>, rest: &str) -> String {
-    seen::answer(word, code(result));
-    format!("{word} {} {rest}", code(result))
+fn told<T>(word: &'static str, result: &Result<T, Refusal>, rest: &str) -> Line {
+    let refusal = result.as_ref().err().copied();
+    Line { text: format!("{word} {} {rest}", refusal.map_or(0, |refusal| refusal.number)), refusal }
 }
 
-fn read(bytes: &[u8]) -> String {
-    let result = packet::read(bytes);
-    seen::answer("read", code(&result));
-    let packet = match result {
-        Err(number) => return format!("read {number}"),
+fn read(bytes: &[u8]) -> Line {
+    let packet = match packet::read(bytes) {
+        Err(refusal) => return Line { text: format!("read {}", refusal.number), refusal: Some(refusal) },
         Ok(packet) => packet,
     };
     let mut line = format!("read 0 {} {} {} {}", packet.send, packet.recv, packet.seq, packet.ack);
@@ -227,7 +183,7 @@ fn read(bytes: &[u8]) -> String {
     for part in parts {
         write!(line, " {}", checksum(&bytes[part])).unwrap();
     }
-    line
+    plain(line)
 }
 
 /// SLOT NEXT HIGHEST N I MARK ..

@@ -5,6 +5,7 @@ use super::{
     sender::{Place, Sender, IN_FLIGHT, UNUSABLE},
     sending::resend,
     timer::{fallen, grown, rto, sampled},
+    Refusal,
 };
 
 /// Stops where a number is another one.
@@ -50,7 +51,7 @@ fn acknowledgements() {
 
 fn order_and_span() {
     let (mut receiver, mut store) = fresh(0);
-    assert_eq!(take(&mut receiver, &store, &mut []), Err(17));
+    assert_eq!(number(take(&mut receiver, &store, &mut [])), 17);
     for (number, payload) in [(2, &[][..]), (3, &[3]), (1, &[1]), (4, &[4])] {
         accept(&mut receiver, number, payload, &mut store).expect("accepted");
     }
@@ -60,10 +61,15 @@ fn order_and_span() {
         assert_eq!(&output[..length], payload);
     }
     let (mut receiver, mut store) = accepted(&[512]);
-    assert_eq!(accept(&mut receiver, 513, &[], &mut store), Err(14));
+    assert_eq!(number(accept(&mut receiver, 513, &[], &mut store)), 14);
     let (mut receiver, mut store) = fresh(4_294_967_294);
-    assert_eq!(accept(&mut receiver, 4_294_967_294, &[], &mut store), Err(13));
-    assert_eq!(accept(&mut receiver, 4_294_967_295, &[], &mut store), Err(12));
+    assert_eq!(number(accept(&mut receiver, 4_294_967_294, &[], &mut store)), 13);
+    assert_eq!(number(accept(&mut receiver, 4_294_967_295, &[], &mut store)), 12);
+}
+
+/// The number of a refusal, 0 where there is none.
+fn number<T>(result: Result<T, Refusal>) -> u64 {
+    result.err().map_or(0, |refusal| refusal.number)
 }
 
 fn timer() {

@@ -7,7 +7,7 @@ pub fn answers(script: &[u8]) -> String {
     let (mut rest, mut world, mut lines) = (Rest(script), World::default(), String::new());
     while !rest.0.is_empty() {
         match rest.call() {
-            Some(call) => lines += &world.answer(&call),
+            Some(call) => lines += &world.answer(&call).text,
             None => return lines + "bad script\n",
         }
         lines.push('\n');

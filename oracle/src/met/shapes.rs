@@ -1,10 +1,12 @@
 //! What a call that is not refused comes to, where document 01 tells cases apart that have no number: they must all occur.
-use super::{
-    answer::World,
-    sender::{IN_FLIGHT, WAITING},
-    timer::rto,
+use crate::{
+    calls::Call,
+    model::{
+        answer::World,
+        sender::{IN_FLIGHT, WAITING},
+        timer::rto,
+    },
 };
-use crate::calls::Call;
 
 pub const SHAPES: [&str; 25] = [
     "accept: the next to take",

@@ -1,5 +1,16 @@
-//! What a run met: how often each call gave each answer, which refusals applied together, and which rules were broken alone.
-use super::{receiver, sender, sending, shapes::SHAPES};
+//! What a run met: how often each call gave each answer, which refusals applied together, and which rules were broken alone. It
+//! looks at the model's registers and lines from outside.
+mod shapes;
+mod wrong;
+
+use crate::{
+    calls::Call,
+    model::{
+        answer::{Line, World},
+        receiver, sender, sending,
+    },
+};
+use shapes::SHAPES;
 use std::{cell::RefCell, collections::BTreeMap};
 
 /// Every number that a call can give, in document 01's order. Of `destination` and `valid` these are the answers.
@@ -71,29 +82,34 @@ pub fn forget() {
     SEEN.take();
 }
 
-pub fn answer(call: &'static str, number: u64) {
-    SEEN.with_borrow_mut(|seen| *seen.answers.entry((call, number)).or_default() += 1);
-}
-
-pub fn shape(name: &'static str) {
-    SEEN.with_borrow_mut(|seen| *seen.shapes.entry(name).or_default() += 1);
-}
-
-/// The refusals of a call that applied at once; the first of them was given.
-pub fn together(call: &'static str, applying: &[u64]) {
-    let Some((first, later)) = applying.split_first() else { return };
+/// The model's line for a call, which is counted.
+pub fn answer(world: &mut World, call: &Call) -> String {
+    let (wrong, shapes) = (wrong::of(world, call), shapes::of(world, call));
+    let line = world.answer(call);
     SEEN.with_borrow_mut(|seen| {
-        for number in later {
-            *seen.together.entry((call, *first, *number)).or_default() += 1;
+        seen.line(&line);
+        if let Some(wrong) = wrong {
+            *seen.wrong.entry(wrong).or_default() += 1;
+        }
+        if line.text.split(' ').nth(1) == Some("0") {
+            shapes.into_iter().for_each(|shape| *seen.shapes.entry(shape).or_default() += 1);
         }
     });
+    line.text
 }
 
-/// What a call finds wrong with a state, in document 01's order: its rules, its sizes, the clock; a submit, which of its states.
-/// Only what is wrong alone shows that it is tested.
-pub fn wrong(state: &'static str, found: &[Vec<&'static str>]) {
-    if let Some([rule]) = found.iter().map(Vec::as_slice).find(|wrong| !wrong.is_empty()) {
-        SEEN.with_borrow_mut(|seen| *seen.wrong.entry((state, *rule)).or_default() += 1);
+impl Seen {
+    /// The number behind a call's word; and of a refused call the refusals that applied at once, of which the first was given.
+    fn line(&mut self, line: &Line) {
+        let mut words = line.text.split(' ');
+        let (word, number) = (words.next(), words.next().and_then(|number| number.parse().ok()));
+        if let (Some((call, _)), Some(number)) = (CALLS.iter().find(|(call, _)| word == Some(*call)), number) {
+            *self.answers.entry((call, number)).or_default() += 1;
+        }
+        let Some(refusal) = line.refusal else { return };
+        for later in (0..u64::BITS.into()).filter(|later| refusal.also >> later & 1 == 1) {
+            *self.together.entry((refusal.call, refusal.number, later)).or_default() += 1;
+        }
     }
 }
 
