@@ -1,3 +1,4 @@
--- The definitions that the promise cites: what a run of a sender is (Runs), and what is promised of every run (Remembers).
+-- The definitions that the promises cite: what a run of a sender is (Runs), what is promised of every run (Remembers), and what leaves (Leaves).
 pub mod Runs
 pub mod Remembers
+pub mod Leaves

@@ -9,14 +9,14 @@ ghost use Rattle.sender_state.specs.Numbers.{offsetOf};
 ghost use Rattle.sender_submit.specs.Chunks.{dataPacket, laidAt, storedBy};
 ghost use Rattle.sender_submit.specs.Submit.{submitOf, submittedOut};
 ghost use Rattle.sender_submit.specs.Steps.{ackedPacket, Acking, Roomy};
-use receiver_ack::AckFields;
-use sender_state::Sender;
-use sender_state::Tally;
-use receiver_state::Receiver;
-use terms::SeqNo;
-use terms::StreamId;
 use packet_write::Fields;
 use packet_write::Writing;
+use receiver_ack::AckFields;
+use receiver_state::Receiver;
+use sender_state::Sender;
+use sender_state::Tally;
+use terms::SeqNo;
+use terms::StreamId;
 
 // How many packets were made, and the state after the call, which a refusal leaves as it was.
 pub struct Submitted {

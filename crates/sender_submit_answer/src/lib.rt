@@ -7,9 +7,9 @@ ghost use Rattle.receiver_state.specs.Rules.{rulesOf, slotFits};
 ghost use Rattle.sender_state.specs.Rules.{rules, sizesFit};
 ghost use Rattle.sender_state.specs.Answers.{saidTally};
 ghost use Rattle.sender_submit_answer.specs.Answer.{chunksOf, submitSaid};
+use receiver_state::Receiver;
 use sender_state::Sender;
 use sender_state::Tally;
-use receiver_state::Receiver;
 use terms::Refusal;
 
 // Whether both states keep their rules.
