@@ -1,5 +1,5 @@
 -- The same reader in calls: each stops at the first thing that is given out, and says how many bytes it used. The host offers the others again.
-use Prim.Native.Nat.{ℕ, suc}
+use Prim.Native.Nat.{ℕ, suc, _+_}
 use mathlib.Core.List.{List, [], _∷_, _++_}
 use lib.ListN.{take, drop}
 use Rattle.portions.specs.Fold.{Left}
@@ -21,6 +21,10 @@ pub record Offered (State Given : Type 0) : Type 0 where
 abbrev pub unlessGiven : {State Given : Type 0} → List Given → State → Reading State Given → Reading State Given
 unlessGiven (given ∷ none) state rest = record { gave = given ∷ []; used = 1; state = state }
 unlessGiven [] state rest = record { gave = rest .gave; used = suc (rest .used); state = rest .state }
+
+-- a call that used so many bytes before
+abbrev pub usedBefore : {State Given : Type 0} → ℕ → Reading State Given → Reading State Given
+usedBefore n reading = record { gave = reading .gave; used = n + reading .used; state = reading .state }
 
 module _ {State Given : Type 0} (step : State → ℕ → Left State Given) where
   abbrev pub untilGiven : State → List ℕ → Reading State Given

@@ -1,0 +1,1 @@
+// No code: what holds of any calls of a serial line's reader.

@@ -1,0 +1,3 @@
+pub mod Frames
+pub mod Rules
+pub mod Start
