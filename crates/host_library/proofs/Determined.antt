@@ -14,9 +14,9 @@ use Rattle.receiver_ack.specs.Acknowledge.{acknowledgeOf}
 use Rattle.host_numbers.specs.declared.Counted.{Counted}
 use Rattle.host_numbers.specs.declared.Fields.{Fields}
 use Rattle.host_numbers.specs.Numbers.{Hosted, hosted, hostedStart, begun, answered, counted, HostedAck, hostedAck, wrote}
-use Rattle.host_numbers.specs.Fields.{fieldsOf}
+use Rattle.host_numbers.specs.Fields.{hostedRead}
 
-pub digitmeadow-read-determined : (packet : List ℕ) (a b : Fields) → a ≡ fieldsOf (readOf packet) → b ≡ fieldsOf (readOf packet) → a ≡ b
+pub digitmeadow-read-determined : (packet : List ℕ) (a b : Fields) → a ≡ hostedRead (readOf packet) → b ≡ hostedRead (readOf packet) → a ≡ b
 digitmeadow-read-determined packet a b p q = determined p q
 
 module _ (s t : Receiver) (x y : List ℕ) where

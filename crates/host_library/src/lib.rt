@@ -9,7 +9,7 @@ ghost use Rattle.receiver_calls.specs.Accept.{acceptOf};
 ghost use Rattle.receiver_calls.specs.Take.{takeOf};
 ghost use Rattle.receiver_ack.specs.Acknowledge.{acknowledgeOf};
 ghost use Rattle.host_numbers.specs.Numbers.{hosted, hostedStart, begun, answered, counted, hostedAck, wrote};
-ghost use Rattle.host_numbers.specs.Fields.{fieldsOf};
+ghost use Rattle.host_numbers.specs.Fields.{hostedRead};
 use host_numbers::Counted;
 use host_numbers::Fields;
 use packet_read::Reading;
@@ -19,7 +19,7 @@ use terms::SeqNo;
 // Reads a packet: `packet_read::read`.
 #[no_mangle]
 pub extern "C" fn digitmeadow_read(packet: &[u8]) -> Fields
-    ensures { λ r. ⌜ r ≡ fieldsOf (readOf (now (packet .entry))) ⌝ }
+    ensures { λ r. ⌜ r ≡ hostedRead (readOf (now (packet .entry))) ⌝ }
 {
     match packet_read::read(packet) {
         Reading::Read(p) => host_numbers::of_packet(p),

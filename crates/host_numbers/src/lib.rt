@@ -2,15 +2,14 @@
 // acknowledgement on a state by value. A refusal is document 01's number, and 0 is none. The exported calls are in `host_library`.
 ghost use mathlib.Core.Path.{_≡_};
 ghost use lib.ListN.{length};
-ghost use Rattle.packet_read.specs.Reading.{nothing, answered as readAs};
-ghost use Rattle.terms.specs.Answers.{said, saidOf};
+ghost use Rattle.terms.specs.Answers.{refusal, values, said, saidOf};
 ghost use Rattle.receiver_state.specs.Start.{startOf};
 ghost use Rattle.receiver_ack.specs.Acknowledge.{said as ackSaid, acknowledgeOf};
 ghost use Rattle.host_numbers.specs.Numbers.{inNumbers, hostedStart, begun, hostedAck, wrote};
-ghost use Rattle.host_numbers.specs.Fields.{partOf, fieldsOf};
-use receiver_ack::Acknowledged;
+ghost use Rattle.host_numbers.specs.Fields.{partOf, hostedRead};
 use packet_read::Packet;
 use packet_read::Span;
+use receiver_ack::Acknowledged;
 use receiver_state::Receiver;
 use terms::Answer;
 use terms::Given;
@@ -101,7 +100,7 @@ fn of_span(s: Span) -> Part
 
 // The record of a packet that was read.
 pub fn of_packet(p: Packet) -> Fields
-    ensures { λ r. ⌜ r ≡ fieldsOf (readAs p) ⌝ }
+    ensures { λ r. ⌜ r ≡ hostedRead (values p) ⌝ }
 {
     let nacks = of_span(p.nacks);
     let destination = of_span(p.destination);
@@ -127,7 +126,7 @@ pub fn of_packet(p: Packet) -> Fields
 
 // The record of a refused read.
 pub fn of_refusal(number: u32) -> Fields
-    ensures { λ r. ⌜ r ≡ fieldsOf (record { refusal = number; values = nothing }) ⌝ }
+    ensures { λ r. ⌜ r ≡ hostedRead (refusal number) ⌝ }
 {
     let none = Part { at: 0, len: 0 };
     Fields {

@@ -8,10 +8,11 @@ use borrow.Author.Tests.{ltb-false}
 use lib.Dec.{ltb}
 use lib.ListN.{length, length-take, length-drop}
 use Rattle.terms.specs.declared.Refusal.{Refusal}
+use Rattle.terms.specs.Answers.{Saying}
 use Rattle.terms.proofs.Laws.{rung}
 use Rattle.packet_read.specs.Flags.{bit}
 use Rattle.packet_read.specs.Options.{destinationAt, signatureAt, signatureSize, afterDestination, following, destinationSize, optionsIn}
-use Rattle.packet_read.specs.Reading.{Said, nothing, flagsOf, optionsAt, optionsEnd, withOptions, readOf, spanned}
+use Rattle.packet_read.specs.Reading.{noFields, fieldsIn, fieldsOf, flagsOf, optionsAt, optionsEnd, withOptions, readOf, spanned}
 use Rattle.packet_read.specs.declared.DestinationFound.{DestinationFound}
 use Rattle.packet_read.specs.declared.DestinationFound.the-variants as D
 use Rattle.packet_read.specs.declared.Options.{Options}
@@ -19,28 +20,20 @@ use Rattle.packet_read.specs.declared.Options.the-variants as O
 use Rattle.packet_read.specs.declared.Packet.{Packet}
 use Rattle.packet_read.specs.declared.Span.{Span}
 use Rattle.packet_read.proofs.Form.{size-inside}
-
-abbrev pub endOf : Span → ℕ
-endOf s = s .at + s .len
-
-pub record Laid (p : List ℕ) (v : Packet) : Type 0 where
-  pub nacks-first : endOf (v .nacks) ≤ v .destination .at
-  pub then-destination : endOf (v .destination) ≤ v .signature .at
-  pub then-signature : endOf (v .signature) + v .leftover ≤ v .payload .at
-  pub then-payload : endOf (v .payload) ≤ length p
+use Rattle.packet_parts.specs.Laid.{spanEnd, Laid}
 
 -- the length of a part is the span's
-pub spanned-length : (p : List ℕ) (s : Span) → endOf s ≤ length p → length (spanned p s) ≡ s .len
+pub spanned-length : (p : List ℕ) (s : Span) → spanEnd s ≤ length p → length (spanned p s) ≡ s .len
 spanned-length p s h = simp (length-take, length-drop) (omega arith)
 
 -- the same of an answer, and of what the option area holds: records, so that a ladder is gone down rung by rung
-record LaidSaid (p : List ℕ) (s : Said) : Type 0 where
-  laid : Laid p (s .values)
+record LaidSaid (p : List ℕ) (s : Saying Packet) : Type 0 where
+  laid : Laid p (fieldsIn s)
 
 record LaidOptions (p : List ℕ) (o : Options) : Type 0 where
-  laid : Laid p (withOptions p o .values)
+  laid : Laid p (fieldsIn (withOptions p o))
 
-empty : (p : List ℕ) → Laid p nothing
+empty : (p : List ℕ) → Laid p noFields
 empty p = record { nacks-first = omega arith; then-destination = omega arith; then-signature = omega arith; then-payload = omega arith }
 
 none : (p : List ℕ) (r : Refusal) → LaidOptions p (O.Refused r)
@@ -78,5 +71,5 @@ said-laid p =
     record { laid = optioned p (ltb-false _ _ e) .laid }
 
 -- the law: whatever the bytes, the parts that `read` reports lie so
-pub parts-laid : (p : List ℕ) → Laid p (readOf p .values)
+pub parts-laid : (p : List ℕ) → Laid p (fieldsOf p)
 parts-laid p = said-laid p .laid

@@ -3,7 +3,7 @@
 ghost use mathlib.Core.Path.{_≡_};
 ghost use Prim.Native.Nat.{_+_, _≤_};
 ghost use lib.ListN.{length};
-ghost use Rattle.packet_read.specs.Reading.{readOf, spanned, payloadOf, nacksOf, destinationOf, signatureOf};
+ghost use Rattle.packet_read.specs.Reading.{fieldsOf, spanned, payloadOf, nacksOf, destinationOf, signatureOf};
 use packet_read::Packet;
 use packet_read::Reading;
 use packet_read::Span;
@@ -12,7 +12,7 @@ use terms::StreamId;
 
 // The fields, or those of no packet where the read is refused.
 fn fields_or_none(packet: &[u8]) -> Packet
-    ensures { λ r. ⌜ r ≡ readOf (now (packet .entry)) .values ⌝ }
+    ensures { λ r. ⌜ r ≡ fieldsOf (now (packet .entry)) ⌝ }
 {
     match packet_read::read(packet) {
         Reading::Read(p) => p,

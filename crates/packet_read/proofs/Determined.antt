@@ -5,29 +5,22 @@ use mathlib.Core.Bool.{Bool}
 use mathlib.Core.List.{List}
 use native.Mathlib.Omega.{arith}
 use Rattle.terms.specs.Ladder.{_when_else_}
-use Rattle.terms.proofs.Numbers.{number-one, number-some}
+use Rattle.terms.proofs.Numbers.{number-one}
 use Rattle.terms.proofs.Determined.{determined}
 use Rattle.packet_read.specs.Destination.{isDestination}
-use Rattle.packet_read.specs.Reading.{Said, said, readOf}
-use Rattle.packet_read.specs.declared.Packet.{Packet}
+use Rattle.packet_read.specs.Reading.{saidReading, readOf}
 use Rattle.packet_read.specs.declared.Reading.{Reading}
 use Rattle.packet_read.specs.declared.Reading.the-variants as R
 
-abbrev refusal-of : Said → ℕ
-refusal-of s = s .refusal
-
-abbrev values-of : Said → Packet
-values-of s = s .values
-
 -- two answers that say the same are the same
-pub said-one : (a b : Reading) → said a ≡ said b → a ≡ b
-said-one (R.Refused q) (R.Refused r) e = ap R.Refused (number-one q r (ap refusal-of e))
-said-one (R.Refused q) (R.Read p) e = absurd (omega (arith, number-some q, ap refusal-of e))
-said-one (R.Read p) (R.Refused r) e = absurd (omega (arith, number-some r, ap refusal-of e))
-said-one (R.Read p) (R.Read q) e = ap R.Read (ap values-of e)
+pub reading-one : (a b : Reading) → saidReading a ≡ saidReading b → a ≡ b
+reading-one (R.Refused q) (R.Refused r) e = ap R.Refused (number-one q r (cc))
+reading-one (R.Refused q) (R.Read p) e = let z : _≡_ {A = ℕ} 0 1 = cc in absurd (omega arith)
+reading-one (R.Read p) (R.Refused r) e = let z : _≡_ {A = ℕ} 0 1 = cc in absurd (omega arith)
+reading-one (R.Read p) (R.Read q) e = ap R.Read (cc)
 
-pub read-determined : (packet : List ℕ) (a b : Reading) → said a ≡ readOf packet → said b ≡ readOf packet → a ≡ b
-read-determined packet a b p q = said-one a b (determined p q)
+pub read-determined : (packet : List ℕ) (a b : Reading) → saidReading a ≡ readOf packet → saidReading b ≡ readOf packet → a ≡ b
+read-determined packet a b p q = reading-one a b (determined p q)
 
 pub is-destination-determined : (bytes : List ℕ) (a b : Bool) → a ≡ isDestination bytes → b ≡ isDestination bytes → a ≡ b
 is-destination-determined bytes a b p q = determined p q

@@ -1,6 +1,6 @@
 -- Reading looks at nothing else: what is read follows from the packet's length and its bytes up to the end of its option area, since
 -- each number that is looked at lies before that end. So the payload's bytes do not matter to the fields. Assumes nothing.
-use Prim.Native.Nat.{ℕ, zero, suc, _+_, _-_, _*_, _≤_}
+use Prim.Native.Nat.{ℕ, zero, suc, _+_, _-_, _*_, _/_, _≤_}
 use mathlib.Core.Path.{_≡_, refl, sym, _∙_, ap}
 use mathlib.Core.Bool.{Bool, true, false, _&&_, not}
 use mathlib.Core.List.{List, [], _∷_, _++_}
@@ -8,20 +8,23 @@ use native.Mathlib.Nat.{zero-add, suc-add}
 use native.Mathlib.Omega.{arith}
 use borrow.Author.Tests.{ltb-false}
 use lib.Dec.{ltb, eqb}
-use lib.ListN.{length, take, drop, length-append, length-drop}
+use lib.ListN.{length, take, drop, length-append, length-drop, take-append-drop}
 use lib.Seq.{take-nil, take-take, take-all, take-at, length-take-le}
+use Rattle.terms.specs.Answers.{values}
 use Rattle.terms.specs.Ladder.{_when_else_}
-use Rattle.terms.specs.Lists.{part}
-use Rattle.wire.specs.BigEndian.{spelled, numberAt}
+use Rattle.wire.specs.BigEndian.{spelled, numberAt, numbersAt}
+use Rattle.wire.proofs.RoundTrip.{numbers-moved}
 use Rattle.packet_read.specs.Flags.{bit}
 use Rattle.packet_read.specs.Destination.{certificateType, certificateLength, keyType, destinationIn}
-use Rattle.packet_read.specs.Options.{destinationAt, maxAt, signatureAt, signatureSize, destinationSize, afterDestination, following, optionsIn}
-use Rattle.packet_read.specs.Reading.{Said, nackCount, flagsOf, optionsAt, optionsEnd, fieldsOf, withOptions, readOf, nacksOf, destinationOf, signatureOf, payloadOf}
+use Rattle.packet_read.specs.Options.{destinationAt, maxAt, signatureAt, signatureSize, destinationSize, found, afterDestination, following, optionsIn}
+use Rattle.packet_read.specs.Reading.{nackCount, flagsOf, optionsAt, optionsEnd, fieldsRead, withOptions, readOf, fieldsIn, fieldsOf, nacksOf, nackNumbersOf}
+use Rattle.packet_read.specs.Parts.{PartsAre}
 use Rattle.packet_read.specs.declared.DestinationFound.{DestinationFound}
 use Rattle.packet_read.specs.declared.DestinationFound.the-variants as D
 use Rattle.packet_read.specs.declared.Found.{Found}
 use Rattle.packet_read.specs.declared.Options.{Options}
 use Rattle.packet_read.specs.declared.Options.the-variants as O
+use Rattle.packet_read.specs.declared.Packet.{Packet}
 use Rattle.packet_read.proofs.Readable.{readable}
 
 -- two ladders with the same test, that go on alike where it fails
@@ -85,11 +88,11 @@ module _ (p q : List ℕ) (end : ℕ) (same : (k i : ℕ) → i + k ≤ end → 
       following-alike at flags (ltb-false _ _ a) (destinationSize p at end flags)
       ∙ ap (λ (d : DestinationFound). following q at end flags (d when bit 5 flags else D.Whole 0)) (destination-alike (destinationAt at flags))
 
-  fields-alike : (n flags : ℕ) (f : Found) → length p ≡ length q → 22 + 4 * n ≤ end → fieldsOf p n end flags f ≡ fieldsOf q n end flags f
+  fields-alike : (n flags : ℕ) (f : Found) → length p ≡ length q → 22 + 4 * n ≤ end → fieldsRead p n end flags f ≡ fieldsRead q n end flags f
   fields-alike n flags f l h =
       rw (same 4 0 (omega arith), same 4 4 (omega arith), same 4 8 (omega arith), same 4 12 (omega arith), same 1 (17 + 4 * n) (omega arith), l)
 
-said-alike : (p q : List ℕ) → ((f : Found) → fieldsOf p (nackCount p) (optionsEnd p) (flagsOf p) f ≡ fieldsOf q (nackCount q) (optionsEnd q) (flagsOf q) f)
+said-alike : (p q : List ℕ) → ((f : Found) → fieldsRead p (nackCount p) (optionsEnd p) (flagsOf p) f ≡ fieldsRead q (nackCount q) (optionsEnd q) (flagsOf q) f)
     → (o : Options) → withOptions p o ≡ withOptions q o
 said-alike p q h (O.Refused r) = refl
 said-alike p q h (O.Found f) = rw (h f)
@@ -107,7 +110,7 @@ reads-alike p q l e =
     let ea : optionsAt p ≡ optionsAt q = ap (λ (n : ℕ). 22 + 4 * n) en in
     let ee : optionsEnd p ≡ optionsEnd q = omega arith in
     let options : optionsIn q (optionsAt p) (optionsEnd p) (flagsOf p) ≡ optionsIn q (optionsAt q) (optionsEnd q) (flagsOf q) = rw (ee, ef, ea) in
-    let fields : (f : Found) → fieldsOf q (nackCount p) (optionsEnd p) (flagsOf p) f ≡ fieldsOf q (nackCount q) (optionsEnd q) (flagsOf q) f = λ f. rw (ee, ef, en) in
+    let fields : (f : Found) → fieldsRead q (nackCount p) (optionsEnd p) (flagsOf p) f ≡ fieldsRead q (nackCount q) (optionsEnd q) (flagsOf q) f = λ f. rw (ee, ef, en) in
     same-rung _ (ltb 65535 (length p)) (ltb 65535 (length q)) (ap (λ (n : ℕ). ltb 65535 n) l) λ _.
     same-rung _ (ltb (length p) 22) (ltb (length q) 22) (ap (λ (n : ℕ). ltb n 22) l) λ _.
     same-rung _ (ltb (length p) (optionsAt p)) (ltb (length q) (optionsAt q)) (cc) λ _.
@@ -121,28 +124,26 @@ payload-apart p payload h =
     let front : length (take (optionsEnd p) p) ≡ optionsEnd p = length-take-le (optionsEnd p) p (omega arith) in
     reads-alike p (take (optionsEnd p) p ++ payload) (rw (length-append, front) (omega arith)) (sym (take-at (take (optionsEnd p) p) payload (optionsEnd p) front))
 
--- how long the destination is
-abbrev pub destinationLength : List ℕ → ℕ
-destinationLength p = readOf p .values .destination .len
-
--- What each part of a packet is, as a list.
-pub record PartsAre (p : List ℕ) : Type 0 where
-  pub nacks-are : nacksOf p ≡ part p 17 (17 + 4 * nackCount p)
-  pub destination-is : destinationOf p ≡ part p (destinationAt (optionsAt p) (flagsOf p)) (maxAt (optionsAt p) (flagsOf p) (destinationLength p))
-  pub signature-is : signatureOf p
-      ≡ part p (signatureAt (optionsAt p) (flagsOf p) (destinationLength p))
-      (signatureAt (optionsAt p) (flagsOf p) (destinationLength p) + signatureSize p (optionsAt p) (optionsEnd p) (flagsOf p) (destinationLength p))
-  pub payload-is : payloadOf p ≡ drop (optionsEnd p) p
-
 -- where the read is not refused
-pub parts-are : (p : List ℕ) → readOf p .refusal ≡ 0 → PartsAre p
-parts-are p h =
-    let r = readable p h in
-    let long : destinationLength p ≡ r .size = ap (λ (s : Said). s .values .destination .len) (r .is) in
+pub parts-are : (p : List ℕ) (v : Packet) → readOf p ≡ values v → PartsAre p v
+parts-are p v h =
+    let r = readable p v h in
+    let is : fieldsOf p ≡ fieldsRead p (nackCount p) (optionsEnd p) (flagsOf p) (found p (optionsAt p) (optionsEnd p) (flagsOf p) (r .size)) = ap fieldsIn h ∙ r .is in
+    let long : v .destination .len ≡ r .size = ap (λ (x : Packet). x .destination .len) (r .is) in
     let cut : (a n : ℕ) → n ≡ a + n - a = λ a n. omega arith in
     record {
-      nacks-are = rw (r .is, ← cut 17 (4 * nackCount p));
-      destination-is = rw (long, r .is, ← cut (destinationAt (optionsAt p) (flagsOf p)) (r .size));
-      signature-is = rw (long, r .is, ← cut (signatureAt (optionsAt p) (flagsOf p) (r .size)) (signatureSize p (optionsAt p) (optionsEnd p) (flagsOf p) (r .size)));
-      payload-is = rw (r .is) (take-all (length p - optionsEnd p) (drop (optionsEnd p) p) (simp length-drop (omega arith)));
+      nacks-are = rw (is, ← cut 17 (4 * nackCount p));
+      destination-is = rw (long, is, ← cut (destinationAt (optionsAt p) (flagsOf p)) (r .size));
+      signature-is = rw (long, is, ← cut (signatureAt (optionsAt p) (flagsOf p) (r .size)) (signatureSize p (optionsAt p) (optionsEnd p) (flagsOf p) (r .size)));
+      payload-is = rw is (take-all (length p - optionsEnd p) (drop (optionsEnd p) p) (simp length-drop (omega arith)));
     }
+
+-- the NACKs as numbers stand from 17 on
+pub nack-numbers : (p : List ℕ) (v : Packet) → readOf p ≡ values v → nackNumbersOf p ≡ numbersAt 4 (nackCount p) 17 p
+nack-numbers p v h =
+    let r = readable p v h in
+    let n = nackCount p in
+    let e : 4 * n / 4 ≡ n = omega arith in
+    let is : nacksOf p ≡ take (4 * n) (drop 17 p) = rw (ap fieldsIn h ∙ r .is) in
+    let long : length (take (4 * n) (drop 17 p)) ≡ 4 * n = length-take-le (4 * n) (drop 17 p) (simp length-drop (omega (arith, r .nacks-fit))) in
+    rw (is, long, e) (sym (numbers-moved 4 n 0 17 p (take (4 * n) (drop 17 p)) (drop (4 * n) (drop 17 p)) (sym (take-append-drop (4 * n) (drop 17 p))) (omega (arith, long))))

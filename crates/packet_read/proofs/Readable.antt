@@ -9,23 +9,22 @@ use borrow.Author.Tests.{ltb-false}
 use lib.Dec.{ltb}
 use lib.ListN.{length}
 use Rattle.terms.specs.declared.Refusal.{Refusal}
-use Rattle.terms.specs.declared.Refusal.the-variants.{PacketShort, PacketLong, OptionCut, OfflineAlone, OfflineBlock}
-use Rattle.terms.proofs.Laws.{rung-passed, both-false}
-use Rattle.terms.proofs.Numbers.{number-some}
+use Rattle.terms.specs.declared.Refusal.the-variants.{OptionCut, OfflineAlone, OfflineBlock}
+use Rattle.terms.specs.Answers.{refusal, values}
+use Rattle.terms.specs.Refusals.{numberOf}
+use Rattle.terms.proofs.Laws.{rung-passed, both-false, past}
 use Rattle.packet_read.specs.Flags.{bit}
 use Rattle.packet_read.specs.Options.{destinationAt, signatureAt, signatureSize, destinationSize, found, afterDestination, following, optionsIn}
-use Rattle.packet_read.specs.Reading.{Said, refused, answered, nackCount, flagsOf, optionsAt, optionsEnd, fieldsOf, withOptions, readOf}
+use Rattle.packet_read.specs.Reading.{nackCount, flagsOf, optionsAt, optionsEnd, fieldsRead, withOptions, readOf}
 use Rattle.packet_read.specs.declared.DestinationFound.{DestinationFound}
 use Rattle.packet_read.specs.declared.DestinationFound.the-variants as D
 use Rattle.packet_read.specs.declared.Found.{Found}
 use Rattle.packet_read.specs.declared.Options.{Options}
+use Rattle.packet_read.specs.declared.Packet.{Packet}
 use Rattle.packet_read.specs.declared.Options.the-variants as O
 
-abbrev refusal-of : Said → ℕ
-refusal-of s = s .refusal
-
-not-refused : (z : Said) → z .refusal ≡ 0 → (r : Refusal) → refused r ≡ z → ⊥
-not-refused z e r h = omega (arith, number-some r, ap refusal-of h)
+not-read : (v : Packet) (n : ℕ) → refusal n ≡ values v → ⊥
+not-read v n h = let z : _≡_ {A = ℕ} 0 1 = cc in omega arith
 
 not-found : (f : Found) (r : Refusal) → O.Refused r ≡ O.Found f → ⊥
 not-found f r h = let z : _≡_ {A = ℕ} 0 1 = cc in omega arith
@@ -38,14 +37,15 @@ pub record Held (p : List ℕ) (at end flags size : ℕ) : Type 0 where
   pub online : bit 11 flags ≡ false
   pub signature-fits : signatureAt at flags size + signatureSize p at end flags size ≤ end
 
-pub record Readable (p : List ℕ) : Type 0 where
+-- the packet p was read, with the fields v
+pub record Readable (p : List ℕ) (v : Packet) : Type 0 where
   pub short : length p ≤ 65535
   pub long : 22 ≤ length p
   pub nacks-fit : optionsAt p ≤ length p
   pub options-fit : optionsEnd p ≤ length p
   pub size : ℕ
   pub held : Held p (optionsAt p) (optionsEnd p) (flagsOf p) size
-  pub is : readOf p ≡ answered (fieldsOf p (nackCount p) (optionsEnd p) (flagsOf p) (found p (optionsAt p) (optionsEnd p) (flagsOf p) size))
+  pub is : v ≡ fieldsRead p (nackCount p) (optionsEnd p) (flagsOf p) (found p (optionsAt p) (optionsEnd p) (flagsOf p) size)
 
 module _ (p : List ℕ) (at end flags : ℕ) where
   -- the option area that was found, and the size of the destination in it
@@ -85,18 +85,20 @@ module _ (p : List ℕ) (at end flags : ℕ) where
       let a = rung-passed (ltb end (destinationAt at flags)) (not-found f OptionCut) h in
       followed (destinationSize p at end flags) f (ltb-false _ _ (a .0)) refl (a .1)
 
-  optioned : (z : Said) → z .refusal ≡ 0 → (o : Options) → optionsIn p at end flags ≡ o → withOptions p o ≡ z → FoundIn o
-  optioned z e (O.Refused r) h w = absurd (not-refused z e r w)
-  optioned z e (O.Found f) h w = options-found f h
+  optioned : (v : Packet) (o : Options) → optionsIn p at end flags ≡ o → withOptions p o ≡ values v → FoundIn o
+  optioned v (O.Refused r) h w = absurd (not-read v (numberOf r) w)
+  optioned v (O.Found f) h w = options-found f h
 
-passed : (p : List ℕ) (z : Said) → z .refusal ≡ 0 → readOf p ≡ z → Readable p
+-- a packet that is read passed every rung
+pub readable : (p : List ℕ) (v : Packet) → readOf p ≡ values v → Readable p v
 unfolding readOf
-passed p z e h =
-    let a = rung-passed (ltb 65535 (length p)) (not-refused z e PacketLong) h in
-    let b = rung-passed (ltb (length p) 22) (not-refused z e PacketShort) (a .1) in
-    let c = rung-passed (ltb (length p) (optionsAt p)) (not-refused z e PacketShort) (b .1) in
-    let d = rung-passed (ltb (length p) (optionsEnd p)) (not-refused z e PacketShort) (c .1) in
-    let f = optioned p (optionsAt p) (optionsEnd p) (flagsOf p) z e (optionsIn p (optionsAt p) (optionsEnd p) (flagsOf p)) refl (d .1) in
+readable p v h =
+    let a = past 2 (ltb 65535 (length p)) _ v h in
+    let b = past 1 (ltb (length p) 22) _ v (a .1) in
+    let c = past 1 (ltb (length p) (optionsAt p)) _ v (b .1) in
+    let d = past 1 (ltb (length p) (optionsEnd p)) _ v (c .1) in
+    let f = optioned p (optionsAt p) (optionsEnd p) (flagsOf p) v (optionsIn p (optionsAt p) (optionsEnd p) (flagsOf p)) refl (d .1) in
+    let e = sym (d .1) ∙ ap (withOptions p) (f .is) in
     record {
       short = ltb-false _ _ (a .0);
       long = ltb-false _ _ (b .0);
@@ -104,8 +106,5 @@ passed p z e h =
       options-fit = ltb-false _ _ (d .0);
       size = f .size;
       held = f .held;
-      is = h ∙ sym (d .1) ∙ ap (withOptions p) (f .is);
+      is = cc e;
     }
-
-pub readable : (p : List ℕ) → readOf p .refusal ≡ 0 → Readable p
-readable p e = passed p (readOf p) e refl

@@ -7,15 +7,16 @@ use native.Mathlib.Omega.{arith}
 use borrow.Author.Tests.{lt-ltb, le-ltb, eq-eqb, ne-eqb}
 use lib.Dec.{ltb}
 use lib.ListN.{length}
+use Rattle.terms.specs.Answers.{refusal}
 use Rattle.terms.specs.Ladder.{_when_else_}
-use Rattle.terms.specs.declared.Refusal.the-variants.{PacketShort, PacketLong, OptionCut, DestinationForm, OfflineAlone, OfflineBlock}
+use Rattle.terms.specs.declared.Refusal.the-variants.{OptionCut, DestinationForm, OfflineAlone, OfflineBlock}
 use Rattle.wire.specs.BigEndian.{numberAt}
 use Rattle.packet_read.specs.Flags.{bit}
 use Rattle.packet_read.specs.Destination.{certificateType, certificateLength, keyType, destinationIn}
 use Rattle.packet_read.specs.Options.{destinationAt, signatureAt, signatureSize, afterDestination, following, optionsIn}
 use Rattle.packet_read.specs.declared.DestinationFound.the-variants as D
 use Rattle.packet_read.specs.declared.Options.the-variants as O
-use Rattle.packet_read.specs.Reading.{refused, nackCount, flagsOf, optionsAt, optionsEnd, fieldsOf, withOptions, readOf}
+use Rattle.packet_read.specs.Reading.{nackCount, flagsOf, optionsAt, optionsEnd, fieldsRead, withOptions, readOf}
 use Rattle.packet_read.specs.declared.DestinationFound.{DestinationFound}
 use Rattle.packet_read.specs.declared.Found.{Found}
 use Rattle.packet_read.specs.declared.Options.{Options}
@@ -114,17 +115,17 @@ module _ (p : List ℕ) (at end flags from : ℕ) (e : from ≡ destinationAt at
   past-delay h d b f g = rw (g, f, e) (sym (simp (le-ltb end (destinationAt at flags) (rw e at h))))
 
 module _ (p : List ℕ) where
-  pub too-long : 65535 < length p → refused PacketLong ≡ readOf p
+  pub too-long : 65535 < length p → refusal 2 ≡ readOf p
   unfolding readOf
   too-long h = simp (lt-ltb 65535 (length p) h)
 
   module _ (a : length p ≤ 65535) where
-    pub no-header : length p < 22 → refused PacketShort ≡ readOf p
+    pub no-header : length p < 22 → refusal 1 ≡ readOf p
     unfolding readOf
     no-header h = simp (le-ltb 65535 (length p) a, lt-ltb (length p) 22 h)
 
     module _ (b : 22 ≤ length p) (n : ℕ) (en : n ≡ nackCount p) where
-      pub no-nacks : length p < 22 + 4 * n → refused PacketShort ≡ readOf p
+      pub no-nacks : length p < 22 + 4 * n → refusal 1 ≡ readOf p
       unfolding readOf
       no-nacks h = simp (le-ltb 65535 (length p) a, le-ltb (length p) 22 b, lt-ltb (length p) (optionsAt p) (rw en at h))
 
@@ -132,7 +133,7 @@ module _ (p : List ℕ) where
         end-is : 22 + 4 * n + o ≡ optionsEnd p
         end-is = rw (eo, en)
 
-        pub no-options : length p < 22 + 4 * n + o → refused PacketShort ≡ readOf p
+        pub no-options : length p < 22 + 4 * n + o → refusal 1 ≡ readOf p
         unfolding readOf
         no-options h =
             simp (le-ltb 65535 (length p) a, le-ltb (length p) 22 b, le-ltb (length p) (optionsAt p) (rw en at c), lt-ltb (length p) (optionsEnd p) (rw end-is at h))
@@ -146,5 +147,5 @@ module _ (p : List ℕ) where
 
         -- the record of the fields, at the numbers that the code read
         pub fields-are : (f : ℕ) → f ≡ numberAt 2 (18 + 4 * n) p → (found : Found)
-            → fieldsOf p n (22 + 4 * n + o) f found ≡ fieldsOf p (nackCount p) (optionsEnd p) (flagsOf p) found
+            → fieldsRead p n (22 + 4 * n + o) f found ≡ fieldsRead p (nackCount p) (optionsEnd p) (flagsOf p) found
         fields-are f ef found = rw (ef, end-is, en)

@@ -2,3 +2,4 @@ pub mod Flags
 pub mod Destination
 pub mod Options
 pub mod Reading
+pub mod Parts

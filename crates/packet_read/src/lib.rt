@@ -8,7 +8,7 @@ ghost use mathlib.Core.Path.{_≡_};
 ghost use Prim.Native.Nat.{_+_, _*_, _≤_};
 ghost use lib.ListN.{length};
 ghost use Rattle.packet_read.specs.Destination.{isDestination};
-ghost use Rattle.packet_read.specs.Reading.{said, readOf, fieldsOf};
+ghost use Rattle.packet_read.specs.Reading.{saidReading, readOf, fieldsRead};
 use terms::Refusal;
 use terms::SeqNo;
 use terms::StreamId;
@@ -76,7 +76,7 @@ pub fn is_destination(bytes: &[u8]) -> bool
 // The record of a packet whose options are found.
 fn fields(packet: &[u8], nack_count: usize, end: usize, flags: u16, found: Found) -> Packet
     requires { ⌜ (22 + 4 * «nack_count» ≤ length (now packet)) × (end ≤ length (now packet)) ⌝ }
-    ensures { λ r. ⌜ r ≡ fieldsOf (now (packet .entry)) «nack_count» end flags found ⌝ }
+    ensures { λ r. ⌜ r ≡ fieldsRead (now (packet .entry)) «nack_count» end flags found ⌝ }
 {
     let send = StreamId(wire::be32(packet, 0));
     let recv = StreamId(wire::be32(packet, 4));
@@ -112,7 +112,7 @@ fn fields(packet: &[u8], nack_count: usize, end: usize, flags: u16, found: Found
 
 // Reads a packet. Refusals in document 01's order: 2, 1, then 3 to 6 as the options come.
 pub fn read(packet: &[u8]) -> Reading
-    ensures { λ r. ⌜ said r ≡ readOf (now (packet .entry)) ⌝ }
+    ensures { λ r. ⌜ saidReading r ≡ readOf (now (packet .entry)) ⌝ }
 {
     let size = packet.len();
     if size > 65535 {

@@ -10,11 +10,12 @@ use Rattle.terms.specs.Lists.{joined}
 use Rattle.wire.specs.BigEndian.{bytesOf, bytesOfEach}
 use Rattle.wire.proofs.Laws.{length-each}
 use Rattle.packet_read.specs.Flags.{bit}
-use Rattle.packet_write.specs.Writing.{idParts, headParts, optionParts, packetBytes, ifThere}
+use Rattle.packet_write.specs.Writing.{headParts, optionParts, packetBytes, ifThere}
 use Rattle.packet_write.specs.declared.Fields.{Fields}
 
 pub head-joined : (f : Fields) (nacks : List ℕ) (options : ℕ)
-    → joined (idParts f) ++ (bytesOf 1 (length nacks) ++ bytesOfEach 4 nacks) ++ (bytesOf 1 (f .«resend_delay») ++ bytesOf 2 (f .flags) ++ bytesOf 2 options)
+    → (bytesOf 4 (f .«send_stream_id» .0) ++ bytesOf 4 (f .«recv_stream_id» .0)) ++ (bytesOf 4 (f .«seq_nro» .0) ++ bytesOf 4 (f .«ack_through» .0))
+    ++ (bytesOf 1 (length nacks) ++ bytesOfEach 4 nacks) ++ (bytesOf 1 (f .«resend_delay») ++ bytesOf 2 (f .flags) ++ bytesOf 2 options)
     ≡ joined (headParts f nacks options)
 head-joined f nacks options = simp append-assoc
 

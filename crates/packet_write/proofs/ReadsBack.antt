@@ -1,80 +1,37 @@
 -- What was written reads back: the reader's answer for a packet that `write` wrote is exactly the fields and parts that it was given,
 -- with no leftover. Each part stands where the last one ended, so the reader finds it there, number by number and part by part; a part
 -- whose bit is clear was empty, and a number whose bit is clear was 0. Assumes nothing.
-use Prim.Native.Nat.{ℕ, _+_, _-_, _*_, _^_, _≤_, _<_}
+use Prim.Native.Nat.{ℕ, _+_, _-_, _*_, _/_, _^_, _≤_, _<_}
 use mathlib.Core.Path.{_≡_, refl, sym, _∙_, ap}
 use mathlib.Core.Bool.{Bool, true, false, _&&_, _||_, not}
-use mathlib.Core.List.{List, [], _∷_, _++_}
+use mathlib.Core.List.{List, [], _∷_, _++_, append-nil}
 use native.Mathlib.Nat.{add-zero}
 use native.Mathlib.Omega.{arith}
 use borrow.Author.Tests.{ltb-false, eqb-true, not-false}
 use lib.Dec.{eqb}
 use lib.ListN.{length, take, drop}
 use lib.Seq.{take-at, take-length}
+use Rattle.terms.specs.Answers.{values}
 use Rattle.terms.specs.Ladder.{_when_else_}
 use Rattle.terms.specs.Lists.{all}
-use Rattle.wire.specs.BigEndian.{bytesOf, bytesOfEach, numberAt, numbersAt}
+use Rattle.wire.specs.BigEndian.{bytesOf, bytesOfEach, numberAt}
 use Rattle.wire.proofs.Laws.{length-bytes, length-each}
-use Rattle.wire.proofs.RoundTrip.{past, part-here, number-here, fits, numbers-here}
+use Rattle.wire.proofs.RoundTrip.{past, part-here, number-here, fits, each-numbers}
 use Rattle.packet_read.specs.Flags.{bit}
 use Rattle.packet_read.specs.Destination.{destinationIn, isDestination}
 use Rattle.packet_read.specs.Options.{destinationAt, optionsIn}
-use Rattle.packet_read.specs.Reading.{answered, nackCount, fieldsOf, readOf, nacksOf, destinationOf, signatureOf, payloadOf}
+use Rattle.packet_read.specs.Reading.{nackCount, fieldsRead, nacksOf}
 use Rattle.packet_read.specs.declared.DestinationFound.{DestinationFound}
 use Rattle.packet_read.specs.declared.DestinationFound.the-variants.{Whole}
 use Rattle.packet_read.specs.declared.Found.{Found}
 use Rattle.packet_read.specs.declared.Options.the-variants as O
-use Rattle.packet_read.specs.declared.Packet.{Packet}
 use Rattle.packet_read.proofs.Moved.{destination-found}
 use Rattle.packet_read.proofs.Ways.{all-found, past-delay, past-options, fields-are}
-use Rattle.packet_write.specs.Writing.{Said, unfit, partsUnfit, signatureAt, packetLength, headParts, ifThere, optionParts, packetBytes, writeOf, outputAfter}
+use Rattle.packet_write.specs.Writing.{Written, unfit, partsUnfit, signedAt, packetLength, headParts, ifThere, optionParts, packetBytes, writeOf}
+use Rattle.packet_write.specs.RoundTrip.{Ranged, given, ReadBack, OutputBack}
 use Rattle.packet_write.specs.declared.Fields.{Fields}
 use Rattle.packet_write.proofs.Joins.{behind, optionsLength, packet-behind, length-packet, length-options}
 use Rattle.packet_write.proofs.Passed.{passed}
-
-abbrev length-of : Said → ℕ
-length-of s = s .length-is
-
-abbrev place-of : Said → ℕ
-place-of s = s .signature-at
-
--- the numbers fit their widths, as those of the code do
-pub record Ranged (f : Fields) : Type 0 where
-  pub send-fits : f .«send_stream_id» .0 < 2 ^ 32
-  pub recv-fits : f .«recv_stream_id» .0 < 2 ^ 32
-  pub seq-fits : f .«seq_nro» .0 < 2 ^ 32
-  pub ack-fits : f .«ack_through» .0 < 2 ^ 32
-  pub resend-fits : f .«resend_delay» < 2 ^ 8
-  pub flags-fit : f .flags < 2 ^ 16
-  pub delay-fits : f .delay < 2 ^ 16
-  pub max-fits : f .«max_size» < 2 ^ 16
-
--- the reader's record of the fields that were given, with so many NACKs and parts so long
-abbrev pub given : Fields → ℕ → ℕ → ℕ → ℕ → Packet
-given f nacks destination signature payload = record {
-  «send_stream_id» = f .«send_stream_id»;
-  «recv_stream_id» = f .«recv_stream_id»;
-  «seq_nro» = f .«seq_nro»;
-  «ack_through» = f .«ack_through»;
-  nacks = record { at = 17; len = 4 * nacks };
-  «resend_delay» = f .«resend_delay»;
-  flags = f .flags;
-  delay = f .delay;
-  destination = record { at = destinationAt (22 + 4 * nacks) (f .flags); len = destination };
-  «max_size» = f .«max_size»;
-  signature = record { at = signatureAt (f .flags) nacks destination; len = signature };
-  leftover = 0;
-  payload = record { at = signatureAt (f .flags) nacks destination + signature; len = payload };
-}
-
--- The packet p reads back as what was given: every field, the places of the parts, no leftover, and each part as a list.
-pub record ReadBack (f : Fields) (nacks destination signature payload p : List ℕ) : Type 0 where
-  pub fields-back : readOf p ≡ answered (given f (length nacks) (length destination) (length signature) (length payload))
-  pub nack-bytes-back : nacksOf p ≡ bytesOfEach 4 nacks
-  pub nacks-back : numbersAt 4 (length nacks) 17 p ≡ nacks
-  pub destination-back : destinationOf p ≡ destination
-  pub signature-back : signatureOf p ≡ signature
-  pub payload-back : payloadOf p ≡ payload
 
 -- a number where it stands, and what stands behind it
 field : (k x at to : ℕ) (p : List ℕ) (ls : List (List ℕ)) (r : List ℕ) → x < 256 ^ k → at + k ≡ to → drop at p ≡ behind (bytesOf k x ∷ ls) r
@@ -96,22 +53,22 @@ or-false : (a b : Bool) → (a || b) ≡ false → (a ≡ false) × (b ≡ false
 or-false true b h = (h, cc)
 or-false false b h = (refl, h)
 
-record Clear (f : Fields) (destination signature : ℕ) : Type 0 where
+record Clear (f : Fields) (destination signature : List ℕ) : Type 0 where
   no-delay : bit 6 (f .flags) ≡ false → f .delay ≡ 0
-  no-destination : bit 5 (f .flags) ≡ false → destination ≡ 0
+  no-destination : bit 5 (f .flags) ≡ false → length destination ≡ 0
   no-max : bit 7 (f .flags) ≡ false → f .«max_size» ≡ 0
-  no-signature : bit 3 (f .flags) ≡ false → signature ≡ 0
+  no-signature : bit 3 (f .flags) ≡ false → length signature ≡ 0
 
-clear : (f : Fields) (destination signature : ℕ) → partsUnfit f destination signature ≡ false → Clear f destination signature
+clear : (f : Fields) (destination signature : List ℕ) → partsUnfit f destination signature ≡ false → Clear f destination signature
 clear f destination signature h =
     let a = or-false (unfit (bit 6 (f .flags)) (f .delay)) _ h in
-    let b = or-false (unfit (bit 5 (f .flags)) destination) _ (a .1) in
+    let b = or-false (unfit (bit 5 (f .flags)) (length destination)) _ (a .1) in
     let c = or-false (unfit (bit 7 (f .flags)) (f .«max_size»)) _ (b .1) in
     record {
       no-delay = none-given (bit 6 (f .flags)) (f .delay) (a .0);
-      no-destination = none-given (bit 5 (f .flags)) destination (b .0);
+      no-destination = none-given (bit 5 (f .flags)) (length destination) (b .0);
       no-max = none-given (bit 7 (f .flags)) (f .«max_size») (c .0);
-      no-signature = none-given (bit 3 (f .flags)) signature (c .1);
+      no-signature = none-given (bit 3 (f .flags)) (length signature) (c .1);
     }
 
 -- the sizes that the reader finds are those of the parts that were given
@@ -133,16 +90,15 @@ record Head (f : Fields) (nacks : List ℕ) (options : ℕ) (r p : List ℕ) : T
   seq-is : numberAt 4 8 p ≡ f .«seq_nro» .0
   ack-is : numberAt 4 12 p ≡ f .«ack_through» .0
   count-is : nackCount p ≡ length nacks
-  nacks-are : numbersAt 4 (length nacks) 17 p ≡ nacks
   nack-bytes : take (4 * length nacks) (drop 17 p) ≡ bytesOfEach 4 nacks
   resend-is : numberAt 1 (17 + 4 * length nacks) p ≡ f .«resend_delay»
   flags-are : numberAt 2 (18 + 4 * length nacks) p ≡ f .flags
   options-are : numberAt 2 (20 + 4 * length nacks) p ≡ options
   then-options : drop (22 + 4 * length nacks) p ≡ r
 
-head-back : (f : Fields) (nacks : List ℕ) (options : ℕ) (r p : List ℕ) → Ranged f → all (fits 4) nacks ≡ true → length nacks ≤ 255 → options < 2 ^ 16
+head-back : (f : Fields) (nacks : List ℕ) (options : ℕ) (r p : List ℕ) → Ranged f → length nacks ≤ 255 → options < 2 ^ 16
     → p ≡ behind (headParts f nacks options) r → Head f nacks options r p
-head-back f nacks options r p ranged fit few small is =
+head-back f nacks options r p ranged few small is =
     let n = length nacks in
     let ls = headParts f nacks options in
     let a = field 4 (f .«send_stream_id» .0) 0 4 p (drop 1 ls) r (ranged .send-fits) refl is in
@@ -160,7 +116,6 @@ head-back f nacks options r p ranged fit few small is =
       seq-is = c .0;
       ack-is = d .0;
       count-is = e .0;
-      nacks-are = numbers-here 4 nacks 17 p (behind (drop 6 ls) r) fit (e .1);
       nack-bytes = part-here 17 (4 * n) p (bytesOfEach 4 nacks) (behind (drop 6 ls) r) (e .1) (length-each 4 nacks);
       resend-is = h .0;
       flags-are = i .0;
@@ -176,7 +131,7 @@ record Tail (f : Fields) (destination signature payload : List ℕ) (at : ℕ) (
   signature-here : drop (destinationAt at (f .flags) + length destination + (2 when bit 7 (f .flags) else 0)) p ≡ signature ++ payload
   payload-here : drop (destinationAt at (f .flags) + length destination + (2 when bit 7 (f .flags) else 0) + length signature) p ≡ payload
 
-tail-back : (f : Fields) (destination signature payload : List ℕ) (at : ℕ) (p : List ℕ) → Ranged f → Clear f (length destination) (length signature)
+tail-back : (f : Fields) (destination signature payload : List ℕ) (at : ℕ) (p : List ℕ) → Ranged f → Clear f destination signature
     → drop at p ≡ behind (optionParts f destination signature) payload → Tail f destination signature payload at p
 tail-back f destination signature payload at p ranged none is =
     let from = destinationAt at (f .flags) in
@@ -195,27 +150,27 @@ tail-back f destination signature payload at p ranged none is =
     }
 
 -- the record that the reader finds in the option area
-abbrev foundBack : Fields → ℕ → ℕ → ℕ → Found
+abbrev foundBack : Fields → List ℕ → List ℕ → List ℕ → Found
 foundBack f nacks destination signature = record {
   delay = f .delay;
-  destination = record { at = destinationAt (22 + 4 * nacks) (f .flags); len = destination };
+  destination = record { at = destinationAt (22 + 4 * length nacks) (f .flags); len = length destination };
   «max_size» = f .«max_size»;
-  signature = record { at = signatureAt (f .flags) nacks destination; len = signature };
+  signature = record { at = signedAt f nacks destination; len = length signature };
   leftover = 0;
 }
 
 module _ (f : Fields) (nacks destination signature payload p : List ℕ) (head : Head f nacks (optionsLength f destination signature) (behind (optionParts f destination signature) payload) p)
-    (tail : Tail f destination signature payload (22 + 4 * length nacks) p) (none : Clear f (length destination) (length signature)) where
+    (tail : Tail f destination signature payload (22 + 4 * length nacks) p) (none : Clear f destination signature) where
   options-back : bit 11 (f .flags) ≡ false → (bit 5 (f .flags) && not (isDestination destination)) ≡ false
       → (bit 3 (f .flags) && (bit 5 (f .flags) && not (eqb (length signature) 64))) ≡ false
-      → O.Found (foundBack f (length nacks) (length destination) (length signature))
+      → O.Found (foundBack f nacks destination signature)
       ≡ optionsIn p (22 + 4 * length nacks) (22 + 4 * length nacks + optionsLength f destination signature) (f .flags)
   options-back online form signed =
       let at = 22 + 4 * length nacks in
       let o = optionsLength f destination signature in
       let end = at + o in
       let from = destinationAt at (f .flags) in
-      let place = signatureAt (f .flags) (length nacks) (length destination) in
+      let place = signedAt f nacks destination in
       let long = length-options f destination signature in
       let d = size-found (bit 5 (f .flags)) (isDestination destination) (destinationIn p from end) (length destination) form (none .no-destination)
       (λ t. destination-found p destination (ifThere (bit 7 (f .flags)) (f .«max_size») ++ (signature ++ payload)) from end (tail .destination-here) t (omega (arith, long))) in
@@ -228,29 +183,29 @@ module _ (f : Fields) (nacks destination signature payload p : List ℕ) (head :
 
   fields-given : optionsLength f destination signature ≡ (2 when bit 6 (f .flags) else 0) + length destination + (2 when bit 7 (f .flags) else 0) + length signature
       → length p ≡ 22 + 4 * length nacks + optionsLength f destination signature + length payload
-      → fieldsOf p (length nacks) (22 + 4 * length nacks + optionsLength f destination signature) (f .flags) (foundBack f (length nacks) (length destination) (length signature))
-      ≡ given f (length nacks) (length destination) (length signature) (length payload)
+      → fieldsRead p (length nacks) (22 + 4 * length nacks + optionsLength f destination signature) (f .flags) (foundBack f nacks destination signature)
+      ≡ given f nacks destination signature payload
   fields-given long whole =
-      let e : 22 + 4 * length nacks + optionsLength f destination signature ≡ signatureAt (f .flags) (length nacks) (length destination) + length signature = omega arith in
-      let l : length p - (signatureAt (f .flags) (length nacks) (length destination) + length signature) ≡ length payload = omega arith in
+      let e : 22 + 4 * length nacks + optionsLength f destination signature ≡ signedAt f nacks destination + length signature = omega arith in
+      let l : length p - (signedAt f nacks destination + length signature) ≡ length payload = omega arith in
       rw (e, l, head .send-is, head .recv-is, head .seq-is, head .ack-is, head .resend-is)
 
 -- The theorem: for fields and NACKs that fit their widths, any destination, signature and payload and any room, a packet that is not
 -- refused reads back as what was given.
-pub reads-back : (f : Fields) (nacks destination signature payload : List ℕ) (room : ℕ) → Ranged f → all (fits 4) nacks ≡ true
-    → writeOf f nacks destination signature payload room .refusal ≡ 0 → ReadBack f nacks destination signature payload (packetBytes f nacks destination signature payload)
-reads-back f nacks destination signature payload room ranged fit h =
+pub reads-back : (f : Fields) (nacks destination signature payload : List ℕ) (room : ℕ) (w : Written) → Ranged f → all (fits 4) nacks ≡ true
+    → writeOf f nacks destination signature payload room ≡ values w → ReadBack f nacks destination signature payload (packetBytes f nacks destination signature payload)
+reads-back f nacks destination signature payload room w ranged fit h =
     let p = packetBytes f nacks destination signature payload in
     let n = length nacks in
     let o = optionsLength f destination signature in
     let r = behind (optionParts f destination signature) payload in
-    let ok = passed f n destination (length signature) (length payload) room (writeOf f nacks destination signature payload room) h refl in
+    let ok = passed f nacks destination signature payload room w h in
     let long = length-options f destination signature in
     let whole = length-packet f nacks destination signature payload in
-    let none = clear f (length destination) (length signature) (ok .fit) in
-    let head = head-back f nacks o r p ranged fit (ok .fitting .few) (omega (arith, long, ok .fitting .short)) (packet-behind f nacks destination signature payload) in
+    let none = clear f destination signature (ok .fit) in
+    let head = head-back f nacks o r p ranged (ok .fitting .few) (omega (arith, long, ok .fitting .short)) (packet-behind f nacks destination signature payload) in
     let tail = tail-back f destination signature payload (22 + 4 * n) p ranged none (head .then-options) in
-    let found = foundBack f n (length destination) (length signature) in
+    let found = foundBack f nacks destination signature in
     let options = options-back f nacks destination signature payload p head tail none (ok .online) (ok .form) (ok .signed) in
     let short : length p ≤ 65535 = omega (arith, long, whole, ok .fitting .short) in
     let en = sym (head .count-is) in
@@ -259,41 +214,31 @@ reads-back f nacks destination signature payload room ranged fit h =
     let read = past-options p short (omega (arith, whole)) n en (omega (arith, whole)) o eo (omega (arith, whole)) (f .flags) ef (O.Found found) options in
     let fields = fields-are p short (omega (arith, whole)) n en (omega (arith, whole)) o eo (f .flags) ef found in
     let back = fields-given f nacks destination signature payload p head tail none long whole in
-    let answer = sym read ∙ ap answered (sym fields ∙ back) in
-    let behind-max = destinationAt (22 + 4 * n) (f .flags) + length destination + (2 when bit 7 (f .flags) else 0) in
-    let place : signatureAt (f .flags) n (length destination) ≡ behind-max = omega arith in
+    let answer = sym read ∙ ap values (sym fields ∙ back) in
+    let nack-bytes : nacksOf p ≡ bytesOfEach 4 nacks = rw answer (head .nack-bytes) in
+    let four : 4 * n / 4 ≡ n = omega arith in
     record {
       fields-back = answer;
-      nack-bytes-back = rw answer (head .nack-bytes);
-      nacks-back = head .nacks-are;
+      nack-bytes-back = nack-bytes;
+      nacks-back = rw (nack-bytes, length-each 4 nacks, four) (rw append-nil at (each-numbers nacks [] fit));
       destination-back =
           rw answer
           (part-here (destinationAt (22 + 4 * n) (f .flags)) (length destination) p destination (ifThere (bit 7 (f .flags)) (f .«max_size») ++ (signature ++ payload)) (tail .destination-here) refl);
-      signature-back = rw (answer, place) (part-here behind-max (length signature) p signature payload (tail .signature-here) refl);
-      payload-back = rw (answer, place, tail .payload-here) (take-length payload);
+      signature-back = rw answer (part-here (signedAt f nacks destination) (length signature) p signature payload (tail .signature-here) refl);
+      payload-back = rw (answer, tail .payload-here) (take-length payload);
     }
 
--- What is left in the output: the packet at its front, as long as the answer says, with the signature where the answer says.
-pub record OutputBack (f : Fields) (nacks destination signature payload output : List ℕ) : Type 0 where
-  pub read-back : ReadBack f nacks destination signature payload (packetBytes f nacks destination signature payload)
-  pub begins : take (writeOf f nacks destination signature payload (length output) .length-is) (outputAfter f nacks destination signature payload output)
-      ≡ packetBytes f nacks destination signature payload
-  pub long : length (packetBytes f nacks destination signature payload) ≡ writeOf f nacks destination signature payload (length output) .length-is
-  pub signature-there : writeOf f nacks destination signature payload (length output) .signature-at
-      ≡ (readOf (packetBytes f nacks destination signature payload) .values .signature .at when bit 3 (f .flags) else 0)
-
-pub output-reads-back : (f : Fields) (nacks destination signature payload output : List ℕ) → Ranged f → all (fits 4) nacks ≡ true
-    → writeOf f nacks destination signature payload (length output) .refusal ≡ 0 → OutputBack f nacks destination signature payload output
-output-reads-back f nacks destination signature payload output ranged fit h =
+-- and it is what the output begins with
+pub output-reads-back : (f : Fields) (nacks destination signature payload output : List ℕ) (w : Written) → Ranged f → all (fits 4) nacks ≡ true
+    → writeOf f nacks destination signature payload (length output) ≡ values w → OutputBack f nacks destination signature payload output w
+output-reads-back f nacks destination signature payload output w ranged fit h =
     let p = packetBytes f nacks destination signature payload in
-    let z = writeOf f nacks destination signature payload (length output) in
-    let ok = passed f (length nacks) destination (length signature) (length payload) (length output) z h refl in
-    let back = reads-back f nacks destination signature payload (length output) ranged fit h in
-    let long : length p ≡ packetLength (f .flags) (length nacks) (length destination) (length signature) (length payload) =
-    omega (arith, length-packet f nacks destination signature payload, length-options f destination signature) in
+    let ok = passed f nacks destination signature payload (length output) w h in
+    let long : length p ≡ w .length-is =
+    omega (arith, length-packet f nacks destination signature payload, length-options f destination signature, ap (λ (x : Written). x .length-is) (ok .is)) in
     record {
-      read-back = back;
-      begins = rw h (take-at p (drop (length p) output) (z .length-is) (long ∙ ap length-of (ok .is)));
-      long = long ∙ ap length-of (ok .is);
-      signature-there = rw (back .fields-back) (sym (ap place-of (ok .is)));
+      read-back = reads-back f nacks destination signature payload (length output) w ranged fit h;
+      begins = rw h (take-at p (drop (length p) output) (w .length-is) long);
+      long = long;
+      signature-there = ap (λ (x : Written). x .signature-at) (ok .is);
     }

@@ -2,7 +2,7 @@
 -- bytes. Each number that was read, written where it stood in front of the bytes behind it, is the bytes from there on; so going from the
 -- payload to the front the whole packet comes back. Nothing is asked of the flags: bits 12 to 15 and a signature without a destination
 -- are covered. Assumes nothing.
-use Prim.Native.Nat.{ℕ, _+_, _-_, _*_, _≤_}
+use Prim.Native.Nat.{ℕ, _+_, _-_, _*_, _/_, _≤_}
 use mathlib.Core.Path.{_≡_, refl, sym, _∙_, ap, subst}
 use mathlib.Core.Bool.{Bool, true, false, _&&_, _||_, not}
 use mathlib.Core.List.{List, _++_}
@@ -12,50 +12,27 @@ use borrow.Author.Tests.{le-ltb, eq-eqb}
 use lib.Dec.{eqb}
 use lib.ListN.{length, take, drop, length-drop, take-append-drop}
 use lib.Seq.{take-all, drop-drop, length-take-le}
+use Rattle.terms.specs.Answers.{values}
 use Rattle.terms.specs.Ladder.{_when_else_}
-use Rattle.terms.specs.Lists.{all, _atFrontOf_}
+use Rattle.terms.specs.Lists.{all}
 use Rattle.wire.specs.BigEndian.{isByte, bytesOf, bytesOfEach, numberAt, numbersAt}
 use Rattle.wire.proofs.RoundTrip.{number-small, peel, peel-each, length-numbers}
 use Rattle.packet_read.specs.Flags.{bit}
 use Rattle.packet_read.specs.Destination.{destinationIn, isDestination}
-use Rattle.packet_read.specs.Options.{destinationAt, maxAt, signatureAt as signatureIn, signatureSize, found}
-use Rattle.packet_read.specs.Reading.{Said, nackCount, flagsOf, optionsAt, optionsEnd, fieldsOf, readOf, spanned, destinationOf, signatureOf, payloadOf}
+use Rattle.packet_read.specs.Options.{destinationAt, maxAt, signatureAt, signatureSize, found}
+use Rattle.packet_read.specs.Reading.{nackCount, flagsOf, optionsAt, optionsEnd, fieldsRead, readOf, fieldsIn, fieldsOf, spanned}
 use Rattle.packet_read.specs.declared.DestinationFound.{DestinationFound}
 use Rattle.packet_read.specs.declared.DestinationFound.the-variants.{Whole}
 use Rattle.packet_read.specs.declared.Packet.{Packet}
 use Rattle.packet_read.proofs.Form.{size-inside}
 use Rattle.packet_read.proofs.Moved.{destination-alone}
+use Rattle.packet_read.proofs.Looks.{nack-numbers}
 use Rattle.packet_read.proofs.Readable.{Readable, readable}
-use Rattle.packet_write.specs.Writing.{written, unfit, partsUnfit, signatureAt, headParts, ifThere, optionParts, packetBytes, writeOf, outputAfter}
+use Rattle.packet_write.specs.Writing.{written, unfit, partsUnfit, signedAt, headParts, ifThere, optionParts, packetBytes, writeOf}
+use Rattle.packet_write.specs.RoundTrip.{fieldsAgain, WrittenBack}
 use Rattle.packet_write.specs.declared.Fields.{Fields}
 use Rattle.packet_write.proofs.Joins.{behind, optionsLength, packet-behind, length-options}
-use Rattle.packet_write.proofs.Ways.{it-fits, by-sizes}
-
--- the writer's fields, taken from what was read
-abbrev pub fieldsAgain : Packet → Fields
-fieldsAgain v = record {
-  «send_stream_id» = v .«send_stream_id»;
-  «recv_stream_id» = v .«recv_stream_id»;
-  «seq_nro» = v .«seq_nro»;
-  «ack_through» = v .«ack_through»;
-  «resend_delay» = v .«resend_delay»;
-  flags = v .flags;
-  delay = v .delay;
-  «max_size» = v .«max_size»;
-}
-
--- the NACKs, as numbers
-abbrev pub nacksAgain : List ℕ → List ℕ
-nacksAgain p = numbersAt 4 (nackCount p) 17 p
-
--- The packet p, written again from what was read of it: the same bytes, accepted wherever there is room, and left at the output's front.
-pub record WrittenBack (p : List ℕ) : Type 0 where
-  pub bytes-back : packetBytes (fieldsAgain (readOf p .values)) (nacksAgain p) (destinationOf p) (signatureOf p) (payloadOf p) ≡ p
-  pub accepted : (room : ℕ) → length p ≤ room
-      → writeOf (fieldsAgain (readOf p .values)) (nacksAgain p) (destinationOf p) (signatureOf p) (payloadOf p) room
-      ≡ written (length p) (readOf p .values .signature .at when bit 3 (readOf p .values .flags) else 0)
-  pub output-back : (output : List ℕ) → length p ≤ length output
-      → outputAfter (fieldsAgain (readOf p .values)) (nacksAgain p) (destinationOf p) (signatureOf p) (payloadOf p) output ≡ p atFrontOf output
+use Rattle.packet_write.proofs.Ways.{it-fits, by-length}
 
 -- the list l, in front of what goes on as the packet does
 in-front : (l : List ℕ) {r s t : List ℕ} → r ≡ s → l ++ s ≡ t → l ++ r ≡ t
@@ -104,7 +81,8 @@ signed-of true true size rest e = rw (eq-eqb size 64 e)
 signed-of true false size rest e = refl
 signed-of false from size rest e = refl
 
-module _ (p : List ℕ) (bytes : all isByte p ≡ true) (r : Readable p) where
+-- a packet that is read with the fields v
+module _ (p : List ℕ) (v : Packet) (bytes : all isByte p ≡ true) (r : Readable p v) where
   abbrev n : ℕ
   n = nackCount p
 
@@ -121,25 +99,28 @@ module _ (p : List ℕ) (bytes : all isByte p ≡ true) (r : Readable p) where
   from = destinationAt at flags
 
   abbrev place : ℕ
-  place = signatureIn at flags (r .size)
+  place = signatureAt at flags (r .size)
 
   abbrev signed : ℕ
   signed = signatureSize p at end flags (r .size)
 
-  abbrev values : Packet
-  values = fieldsOf p n end flags (found p at end flags (r .size))
+  abbrev read : Packet
+  read = fieldsRead p n end flags (found p at end flags (r .size))
 
   abbrev fields : Fields
-  fields = fieldsAgain values
+  fields = fieldsAgain read
+
+  abbrev nacks : List ℕ
+  nacks = numbersAt 4 n 17 p
 
   abbrev destination : List ℕ
-  destination = spanned p (values .destination)
+  destination = spanned p (read .destination)
 
   abbrev signature : List ℕ
-  signature = spanned p (values .signature)
+  signature = spanned p (read .signature)
 
   abbrev payload : List ℕ
-  payload = spanned p (values .payload)
+  payload = spanned p (read .payload)
 
   destination-inside : from + r .size ≤ end
   destination-inside = size-inside p from end (r .size) (bit 5 flags) (r .held .delay-fits) (r .held .sized)
@@ -166,7 +147,7 @@ module _ (p : List ℕ) (bytes : all isByte p ≡ true) (r : Readable p) where
     options-long : optionsLength fields destination signature ≡ numberAt 2 (20 + 4 * n) p
     options-long = omega (arith, length-options fields destination signature, destination-long, signature-long, whole)
 
-    packet-again : behind (headParts fields (nacksAgain p) (optionsLength fields destination signature)) (behind (optionParts fields destination signature) payload) ≡ p
+    packet-again : behind (headParts fields nacks (optionsLength fields destination signature)) (behind (optionParts fields destination signature) payload) ≡ p
     packet-again =
         let fit = r .nacks-fit in
         rw (options-long, length-numbers 4 n 17 p)
@@ -175,7 +156,7 @@ module _ (p : List ℕ) (bytes : all isByte p ≡ true) (r : Readable p) where
         (in-front (bytesOf 4 (numberAt 4 8 p))
         (in-front (bytesOf 4 (numberAt 4 12 p))
         (in-front (bytesOf 1 n)
-        (in-front (bytesOfEach 4 (nacksAgain p))
+        (in-front (bytesOfEach 4 nacks)
         (in-front (bytesOf 1 (numberAt 1 (17 + 4 * n) p))
         (in-front (bytesOf 2 flags)
         (in-front (bytesOf 2 (numberAt 2 (20 + 4 * n) p)) options-again (peel-number p bytes 2 (20 + 4 * n) at (omega arith) fit))
@@ -188,10 +169,10 @@ module _ (p : List ℕ) (bytes : all isByte p ≡ true) (r : Readable p) where
         (peel-number p bytes 4 4 8 refl (omega arith)))
         (peel-number p bytes 4 0 4 refl (omega arith)))
 
-    bytes-again : packetBytes fields (nacksAgain p) destination signature payload ≡ p
-    bytes-again = packet-behind fields (nacksAgain p) destination signature payload ∙ packet-again
+    bytes-again : packetBytes fields nacks destination signature payload ≡ p
+    bytes-again = packet-behind fields nacks destination signature payload ∙ packet-again
 
-    fit-again : partsUnfit fields (length destination) (length signature) ≡ false
+    fit-again : partsUnfit fields destination signature ≡ false
     fit-again =
         or-of _ _ (none-unfit (bit 6 flags) (fields .delay) (number-clear (bit 6 flags) (numberAt 2 at p)))
         (or-of _ _ (none-unfit (bit 5 flags) (length destination) (λ e. destination-long ∙ when-absent (bit 5 flags) (destinationIn p from end) (r .size) (r .held .sized) e))
@@ -207,45 +188,36 @@ module _ (p : List ℕ) (bytes : all isByte p ≡ true) (r : Readable p) where
     signed-again : (bit 3 flags && (bit 5 flags && not (eqb (length signature) 64))) ≡ false
     signed-again = signed-of (bit 3 flags) (bit 5 flags) (length signature) (end - place) signature-long
 
-    accepted-again : (room : ℕ) → length p ≤ room
-        → writeOf fields (nacksAgain p) destination signature payload room ≡ written (length p) (place when bit 3 flags else 0)
+    accepted-again : (room : ℕ) → length p ≤ room → writeOf fields nacks destination signature payload room ≡ written (length p) (place when bit 3 flags else 0)
     accepted-again room h =
-        let m = length (nacksAgain p) in
+        let m = length nacks in
         let em : m ≡ n = length-numbers 4 n 17 p in
         let few : m ≤ 255 = omega (arith, number-small p bytes 1 16 (omega arith)) in
-        let ep : place ≡ signatureAt flags m (length destination) = omega (arith, destination-long) in
+        let ep : place ≡ signedAt fields nacks destination = omega (arith, destination-long) in
         let es : place + length signature + length payload ≡ length p = omega (arith, signature-long, ap length payload-is ∙ length-drop end p) in
         let fits = it-fits flags m (length destination) (length signature) (length payload) room place ep (omega arith) (omega arith) (place when bit 3 flags else 0) refl in
-        sym (by-sizes fields m destination (length signature) (length payload) room few (r .held .online) fit-again form-again signed-again)
-        ∙ sym fits ∙ rw es
+        sym (by-length fields nacks destination signature payload room few (r .held .online) fit-again form-again signed-again) ∙ sym fits ∙ rw es
 
-output-of : (f : Fields) (nacks destination signature payload p output : List ℕ) (place : ℕ) → packetBytes f nacks destination signature payload ≡ p
-    → writeOf f nacks destination signature payload (length output) ≡ written (length p) place → outputAfter f nacks destination signature payload output ≡ p atFrontOf output
-output-of f nacks destination signature payload p output place e w = rw (w, e)
-
-abbrev values-of : Said → Packet
-values-of s = s .values
-
--- the same of the values v
-record Again (p : List ℕ) (v : Packet) : Type 0 where
-  bytes-back : packetBytes (fieldsAgain v) (nacksAgain p) (spanned p (v .destination)) (spanned p (v .signature)) (spanned p (v .payload)) ≡ p
+-- what was written of these fields and parts, as a record of the packet alone
+record Again (p : List ℕ) (v : Packet) (nacks : List ℕ) : Type 0 where
+  bytes-back : packetBytes (fieldsAgain v) nacks (spanned p (v .destination)) (spanned p (v .signature)) (spanned p (v .payload)) ≡ p
   accepted : (room : ℕ) → length p ≤ room
-      → writeOf (fieldsAgain v) (nacksAgain p) (spanned p (v .destination)) (spanned p (v .signature)) (spanned p (v .payload)) room
+      → writeOf (fieldsAgain v) nacks (spanned p (v .destination)) (spanned p (v .signature)) (spanned p (v .payload)) room
       ≡ written (length p) (v .signature .at when bit 3 (v .flags) else 0)
 
 -- The theorem: for every packet of bytes that reads without refusal and without leftover option bytes.
-pub writes-back : (p : List ℕ) → all isByte p ≡ true → readOf p .refusal ≡ 0 → readOf p .values .leftover ≡ 0 → WrittenBack p
-writes-back p bytes h left =
-    let r = readable p h in
-    let e : readOf p .values ≡ values p bytes r = ap values-of (r .is) in
-    let none : end p bytes r - (place p bytes r + signed p bytes r) ≡ 0 = sym (ap (λ (v : Packet). v .leftover) e) ∙ left in
-    let whole : place p bytes r + signed p bytes r ≡ end p bytes r = omega (arith, none, r .held .signature-fits) in
-    let again : Again p (readOf p .values) = subst (Again p) (sym e) (record { bytes-back = bytes-again p bytes r whole; accepted = accepted-again p bytes r whole }) in
+pub writes-back : (p : List ℕ) (v : Packet) → all isByte p ≡ true → readOf p ≡ values v → v .leftover ≡ 0 → WrittenBack p v
+writes-back p v bytes h left =
+    let r = readable p v h in
+    let none : end p v bytes r - (place p v bytes r + signed p v bytes r) ≡ 0 = sym (ap (λ (x : Packet). x .leftover) (r .is)) ∙ left in
+    let whole : place p v bytes r + signed p v bytes r ≡ end p v bytes r = omega (arith, none, r .held .signature-fits) in
+    let first : Again p (read p v bytes r) (nacks p v bytes r) = record { bytes-back = bytes-again p v bytes r whole; accepted = accepted-again p v bytes r whole } in
+    let is : fieldsOf p ≡ v = ap fieldsIn h in
+    let numbers : numbersAt 4 (length (spanned p (v .nacks)) / 4) 0 (spanned p (v .nacks)) ≡ nacks p v bytes r =
+    sym (ap (λ (x : Packet). numbersAt 4 (length (spanned p (x .nacks)) / 4) 0 (spanned p (x .nacks))) is) ∙ nack-numbers p v h in
+    let again = subst (Again p v) (sym numbers) (subst (λ (x : Packet). Again p x (nacks p v bytes r)) (sym (r .is)) first) in
     record {
-      bytes-back = again .bytes-back;
-      accepted = again .accepted;
-      output-back =
-          λ output fits.
-          output-of (fieldsAgain (readOf p .values)) (nacksAgain p) (destinationOf p) (signatureOf p) (payloadOf p) p output _ (again .bytes-back)
-          (again .accepted (length output) fits);
+      bytes-back = rw is (again .bytes-back);
+      accepted = λ room fits. rw is (again .accepted room fits);
+      output-back = λ output fits. rw (is, again .accepted (length output) fits, again .bytes-back);
     }

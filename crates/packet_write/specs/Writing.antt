@@ -1,79 +1,75 @@
--- Writing a packet, from document 01: the same fields as reading, presence by the flags, each part behind the last.
+-- Writing a packet, from document 01: the writer takes the same fields as the reader gives, and the parts as lists.
 use Prim.Native.Nat.{ℕ, _+_, _*_, _≤_}
 use mathlib.Core.Bool.{Bool, _&&_, _||_, not}
 use mathlib.Core.List.{List, [], _∷_, _++_}
 use lib.Dec.{ltb, eqb}
 use lib.ListN.{length}
+use Rattle.terms.specs.Answers.{Saying, refusal, values, _unlessRefused_else_}
 use Rattle.terms.specs.Ladder.{_when_else_}
 use Rattle.terms.specs.Lists.{_atFrontOf_, joined}
 use Rattle.terms.specs.Refusals.{numberOf}
-use Rattle.terms.specs.declared.Refusal.{Refusal}
-use Rattle.terms.specs.declared.Refusal.the-variants.{PacketLong, DestinationForm, OfflineAlone, OfflineBlock, OutputShort, NacksMany, PartsUnfit}
 use Rattle.wire.specs.BigEndian.{bytesOf, bytesOfEach}
 use Rattle.packet_read.specs.Flags.{bit}
 use Rattle.packet_read.specs.Destination.{isDestination}
+use Rattle.packet_read.specs.Options.{signatureAt}
 use Rattle.packet_write.specs.declared.Fields.{Fields}
 use Rattle.packet_write.specs.declared.Writing.{Writing}
 use Rattle.packet_write.specs.declared.Writing.the-variants as W
 
--- What an answer says in document 01's terms: the refusal's number, 0 where there is none, the length, and where the signature begins.
-pub record Said : Type 0 where
-  pub refusal : ℕ
+-- It answers the length and where the signature begins, 0 without bit 3.
+pub record Written : Type 0 where
   pub length-is : ℕ
   pub signature-at : ℕ
 
-abbrev pub refused : Refusal → Said
-refused r = record { refusal = numberOf r; length-is = 0; signature-at = 0 }
+abbrev pub written : ℕ → ℕ → Saying Written
+written n at = values (record { length-is = n; signature-at = at })
 
-abbrev pub written : ℕ → ℕ → Said
-written n at = record { refusal = 0; length-is = n; signature-at = at }
+-- what an answer says
+abbrev pub saidWriting : Writing → Saying Written
+saidWriting (W.Refused r) = refusal (numberOf r)
+saidWriting (W.Written n at) = written n at
 
-abbrev pub said : Writing → Said
-said (W.Refused r) = refused r
-said (W.Written n at) = written n at
-
--- 9: a part or number is given for a clear bit
+-- a part or number that is given, so many bytes or so much, although its bit is clear
 abbrev pub unfit : Bool → ℕ → Bool
 unfit there given = not there && ltb 0 given
 
-abbrev pub partsUnfit : Fields → ℕ → ℕ → Bool
+-- Presence follows the flags: a part or number given for a clear bit must be empty or 0.
+abbrev pub partsUnfit : Fields → List ℕ → List ℕ → Bool
 partsUnfit f destination signature =
     unfit (bit 6 (f .flags)) (f .delay)
-    || (unfit (bit 5 (f .flags)) destination
+    || (unfit (bit 5 (f .flags)) (length destination)
     || (unfit (bit 7 (f .flags)) (f .«max_size»)
-    || unfit (bit 3 (f .flags)) signature))
+    || unfit (bit 3 (f .flags)) (length signature)))
 
--- where a signature begins, and how long the packet is, with so many NACKs and parts so long
-module _ (flags nacks destination : ℕ) where
-  abbrev pub signatureAt : ℕ
-  signatureAt = 22 + 4 * nacks + ((2 when bit 6 flags else 0) + destination + (2 when bit 7 flags else 0))
+-- where the signature begins
+abbrev pub signedAt : Fields → List ℕ → List ℕ → ℕ
+signedAt f nacks destination = signatureAt (22 + 4 * length nacks) (f .flags) (length destination)
 
-  abbrev pub packetLength : ℕ → ℕ → ℕ
-  packetLength signature payload = signatureAt + signature + payload
+module _ (f : Fields) (nacks destination signature payload : List ℕ) where
+  -- how long the packet is
+  abbrev pub packetLength : ℕ
+  packetLength = signedAt f nacks destination + length signature + length payload
 
-  -- 2, 7
-  unfoldable pub sizesOf : ℕ → ℕ → ℕ → Said
-  sizesOf signature payload room =
-      refused PacketLong when ltb 65535 (packetLength signature payload) else
-      refused OutputShort when ltb room (packetLength signature payload) else
-      written (packetLength signature payload) (signatureAt when bit 3 flags else 0)
-
--- what a packet that is written fits
-pub record Fitting (f : Fields) (nacks destination signature payload room : ℕ) : Type 0 where
-  pub few : nacks ≤ 255
-  pub short : packetLength (f .flags) nacks destination signature payload ≤ 65535
-  pub roomy : packetLength (f .flags) nacks destination signature payload ≤ room
-
--- 8, 5, 6, 9 for clear bits, 4, 9 for the signature, then 2 and 7
-unfoldable pub judgeOf : Fields → ℕ → List ℕ → ℕ → ℕ → ℕ → Said
-judgeOf f nacks destination signature payload room =
-    refused NacksMany when ltb 255 nacks else
-    refused OfflineAlone when bit 11 (f .flags) && not (bit 5 (f .flags)) else
-    refused OfflineBlock when bit 11 (f .flags) && bit 5 (f .flags) else
-    refused PartsUnfit when partsUnfit f (length destination) signature else
-    refused DestinationForm when bit 5 (f .flags) && not (isDestination destination) else
-    refused PartsUnfit when bit 3 (f .flags) && (bit 5 (f .flags) && not (eqb signature 64)) else
-    sizesOf (f .flags) nacks (length destination) signature payload room
+  -- the answer where the output has this much room, by document 01's numbers in its order
+  unfoldable pub writeOf : ℕ → Saying Written
+  writeOf room =
+      -- more than 255 NACKs to write
+      refusal 8 when ltb 255 (length nacks) else
+      -- bit 11 without bit 5
+      refusal 5 when bit 11 (f .flags) && not (bit 5 (f .flags)) else
+      -- bit 11 with bit 5
+      refusal 6 when bit 11 (f .flags) && bit 5 (f .flags) else
+      -- parts do not fit the flags: for clear bits
+      refusal 9 when partsUnfit f destination signature else
+      -- bit 5 wants exactly one destination
+      refusal 4 when bit 5 (f .flags) && not (isDestination destination) else
+      -- bit 3 with bit 5 wants 64 bytes
+      refusal 9 when bit 3 (f .flags) && (bit 5 (f .flags) && not (eqb (length signature) 64)) else
+      -- packet to be written longer than 65,535
+      refusal 2 when ltb 65535 packetLength else
+      -- output shorter than needed
+      refusal 7 when ltb room packetLength else
+      written packetLength (signedAt f nacks destination when bit 3 (f .flags) else 0)
 
 -- The bytes, part by part in wire order.
 abbrev pub idParts : Fields → List (List ℕ)
@@ -109,9 +105,13 @@ module _ (f : Fields) (nacks destination signature payload : List ℕ) where
       joined (headParts f nacks (length (joined (optionParts f destination signature))))
       ++ (joined (optionParts f destination signature) ++ payload)
 
-  abbrev pub writeOf : ℕ → Said
-  writeOf room = judgeOf f (length nacks) destination (length signature) (length payload) room
-
   -- bytes beyond the length stay, and a refused call leaves every byte
   abbrev pub outputAfter : List ℕ → List ℕ
-  outputAfter output = packetBytes atFrontOf output when eqb (writeOf (length output) .refusal) 0 else output
+  outputAfter output =
+      packetBytes atFrontOf output unlessRefused writeOf f nacks destination signature payload (length output) else output
+
+  -- what `put::packet`, which writes, is asked: a packet that is not refused for its lengths
+  pub record Fitting (room : ℕ) : Type 0 where
+    pub few : length nacks ≤ 255
+    pub short : packetLength f nacks destination signature payload ≤ 65535
+    pub roomy : packetLength f nacks destination signature payload ≤ room

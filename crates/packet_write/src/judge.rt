@@ -5,12 +5,14 @@ use packet_read::flags;
 use terms::Refusal;
 ghost use mathlib.Core.Path.{_≡_};
 ghost use mathlib.Core.Bool.{true, false, _&&_, not};
-ghost use Prim.Native.Nat.{_+_, _≤_, _<_};
-ghost use lib.Dec.{eqb};
+ghost use Prim.Native.Nat.{_+_, _*_, _≤_, _<_};
+ghost use lib.Dec.{ltb, eqb};
+ghost use Rattle.terms.specs.Answers.{refusal};
 ghost use Rattle.terms.specs.Ladder.{_when_else_};
 ghost use Rattle.packet_read.specs.Flags.{bit};
 ghost use Rattle.packet_read.specs.Destination.{isDestination};
-ghost use Rattle.packet_write.specs.Writing.{said, unfit, partsUnfit, sizesOf, judgeOf};
+ghost use Rattle.packet_read.specs.Options.{signatureAt};
+ghost use Rattle.packet_write.specs.Writing.{saidWriting, written, unfit, partsUnfit, writeOf};
 
 // A part or number that is given although its bit is clear.
 fn unfit(there: bool, given: usize) -> bool
@@ -23,14 +25,14 @@ fn unfit(there: bool, given: usize) -> bool
 }
 
 // A part or number given for any clear bit.
-fn parts_unfit(fields: Fields, destination: usize, signature: usize) -> bool
-    ensures { λ r. ⌜ r ≡ partsUnfit fields destination signature ⌝ }
+fn parts_unfit(fields: Fields, destination: &[u8], signature: &[u8]) -> bool
+    ensures { λ r. ⌜ r ≡ partsUnfit fields (now (destination .entry)) (now (signature .entry)) ⌝ }
 {
     let flags = fields.flags;
     let delay = unfit(flags::has(flags, flags::DELAY), fields.delay as usize);
-    let from = unfit(flags::has(flags, flags::FROM), destination);
+    let from = unfit(flags::has(flags, flags::FROM), destination.len());
     let max_size = unfit(flags::has(flags, flags::MAX_SIZE), fields.max_size as usize);
-    let signed = unfit(flags::has(flags, flags::SIGNATURE), signature);
+    let signed = unfit(flags::has(flags, flags::SIGNATURE), signature.len());
     delay | (from | (max_size | signed))
 }
 
@@ -90,7 +92,10 @@ fn sizes(
     room: usize,
 ) -> Writing
     requires { ⌜ nacks ≤ 255 ⌝ }
-    ensures { λ r. ⌜ said r ≡ sizesOf flags nacks destination signature payload room ⌝ }
+    ensures { λ r. ⌜ saidWriting r
+        ≡ (refusal 2 when ltb 65535 (signatureAt (22 + 4 * nacks) flags destination + signature + payload) else
+        refusal 7 when ltb room (signatureAt (22 + 4 * nacks) flags destination + signature + payload) else
+        written (signatureAt (22 + 4 * nacks) flags destination + signature + payload) (signatureAt (22 + 4 * nacks) flags destination when bit 3 flags else 0)) ⌝ }
 {
     if part_long(destination, signature, payload) {
         return Writing::Refused(Refusal::PacketLong);
@@ -110,16 +115,16 @@ fn sizes(
 // The refusals in document 01's order, or the lengths.
 pub(super) fn judge(
     fields: Fields,
-    nacks: usize,
+    nacks: &[u32],
     destination: &[u8],
-    signature: usize,
-    payload: usize,
+    signature: &[u8],
+    payload: &[u8],
     room: usize,
 ) -> Writing
-    ensures { λ r. ⌜ said r ≡ judgeOf fields nacks (now (destination .entry)) signature payload room ⌝ }
+    ensures { λ r. ⌜ saidWriting r ≡ writeOf fields (now (nacks .entry)) (now (destination .entry)) (now (signature .entry)) (now (payload .entry)) room ⌝ }
 {
     let flags = fields.flags;
-    if nacks > 255 {
+    if nacks.len() > 255 {
         return Writing::Refused(Refusal::NacksMany);
     }
     let from = flags::has(flags, flags::FROM);
@@ -129,14 +134,21 @@ pub(super) fn judge(
         }
         return Writing::Refused(Refusal::OfflineAlone);
     }
-    if parts_unfit(fields, destination.len(), signature) {
+    if parts_unfit(fields, destination, signature) {
         return Writing::Refused(Refusal::PartsUnfit);
     }
     if other_form(from, destination) {
         return Writing::Refused(Refusal::DestinationForm);
     }
-    if other_length(flags::has(flags, flags::SIGNATURE), from, signature) {
+    if other_length(flags::has(flags, flags::SIGNATURE), from, signature.len()) {
         return Writing::Refused(Refusal::PartsUnfit);
     }
-    sizes(flags, nacks, destination.len(), signature, payload, room)
+    sizes(
+        flags,
+        nacks.len(),
+        destination.len(),
+        signature.len(),
+        payload.len(),
+        room,
+    )
 }

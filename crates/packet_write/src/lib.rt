@@ -8,7 +8,7 @@ mod put;
 
 ghost use mathlib.Core.Path.{_≡_};
 ghost use lib.ListN.{length};
-ghost use Rattle.packet_write.specs.Writing.{said, writeOf, outputAfter};
+ghost use Rattle.packet_write.specs.Writing.{saidWriting, writeOf, outputAfter};
 use terms::Refusal;
 use terms::SeqNo;
 use terms::StreamId;
@@ -41,17 +41,10 @@ pub fn write(
     payload: &[u8],
     output: &mut [u8],
 ) -> Writing
-    ensures { λ r. ⌜ said r ≡ writeOf fields (now (nacks .entry)) (now (destination .entry)) (now (signature .entry)) (now (payload .entry)) (length (now (output .entry))) ⌝ }
+    ensures { λ r. ⌜ saidWriting r ≡ writeOf fields (now (nacks .entry)) (now (destination .entry)) (now (signature .entry)) (now (payload .entry)) (length (now (output .entry))) ⌝ }
     ensures { λ _. ⌜ now (output .exit) ≡ outputAfter fields (now (nacks .entry)) (now (destination .entry)) (now (signature .entry)) (now (payload .entry)) (now (output .entry)) ⌝ }
 {
-    let answer = judge::judge(
-        fields,
-        nacks.len(),
-        destination,
-        signature.len(),
-        payload.len(),
-        output.len(),
-    );
+    let answer = judge::judge(fields, nacks, destination, signature, payload, output.len());
     if let Writing::Written(_, _) = answer {
         put::packet(fields, nacks, destination, signature, payload, output);
     }

@@ -2,6 +2,8 @@
 use super::Fields;
 use super::judge;
 use packet_read::flags;
+use terms::SeqNo;
+use terms::StreamId;
 ghost use mathlib.Core.Path.{_≡_};
 ghost use mathlib.Core.Bool.{true};
 ghost use mathlib.Core.List.{_++_};
@@ -13,13 +15,22 @@ ghost use Rattle.wire.specs.BigEndian.{bytesOf, bytesOfEach};
 ghost use Rattle.packet_read.specs.Flags.{bit};
 ghost use Rattle.packet_write.specs.Writing.{headParts, packetBytes, ifThere, Fitting};
 
-// The two ids, the sequence number and ack-through.
-fn ids(rest: &mut [u8], send: u32, recv: u32, seq: u32, ack: u32)
-    requires { ⌜ 16 ≤ length (now rest) ⌝ }
-    ensures { λ _. ⌜ now (rest .exit) ≡ (bytesOf 4 send ++ bytesOf 4 recv ++ bytesOf 4 seq ++ bytesOf 4 ack) atFrontOf now (rest .entry) ⌝ }
+// The two stream ids.
+fn ids(rest: &mut [u8], send: StreamId, recv: StreamId)
+    requires { ⌜ 8 ≤ length (now rest) ⌝ }
+    ensures { λ _. ⌜ now (rest .exit) ≡ (bytesOf 4 (send .0) ++ bytesOf 4 (recv .0)) atFrontOf now (rest .entry) ⌝ }
 {
-    let numbers = [send, recv, seq, ack];
-    wire::put_numbers(rest, &numbers);
+    let both = [send.0, recv.0];
+    wire::put_numbers(rest, &both);
+}
+
+// The sequence number and ack-through.
+fn numbers(rest: &mut [u8], seq: SeqNo, ack: SeqNo)
+    requires { ⌜ 8 ≤ length (now rest) ⌝ }
+    ensures { λ _. ⌜ now (rest .exit) ≡ (bytesOf 4 (seq .0) ++ bytesOf 4 (ack .0)) atFrontOf now (rest .entry) ⌝ }
+{
+    let both = [seq.0, ack.0];
+    wire::put_numbers(rest, &both);
 }
 
 // How many NACKs there are, and the NACKs.
@@ -57,13 +68,12 @@ fn head(rest: &mut [u8], f: Fields, nacks: &[u32], options: u16)
     ensures { λ _. ⌜ now (rest .exit) ≡ joined (headParts f (now (nacks .entry)) options) atFrontOf now (rest .entry) ⌝ }
 {
     let flags_at = 17 + 4 * nacks.len();
-    ids(
-        rest,
-        f.send_stream_id.0,
-        f.recv_stream_id.0,
-        f.seq_nro.0,
-        f.ack_through.0,
-    );
+    let send = f.send_stream_id;
+    let recv = f.recv_stream_id;
+    let seq = f.seq_nro;
+    let ack = f.ack_through;
+    ids(rest, send, recv);
+    numbers(&mut rest[8..], seq, ack);
     counted(&mut rest[16..], nacks);
     flagged(&mut rest[flags_at..], f.resend_delay, f.flags, options);
 }
@@ -93,7 +103,7 @@ pub(super) fn packet(
     payload: &[u8],
     output: &mut [u8],
 )
-    requires { ⌜ Fitting f (length (now nacks)) (length (now destination)) (length (now signature)) (length (now payload)) (length (now output)) ⌝ }
+    requires { ⌜ Fitting f (now nacks) (now destination) (now signature) (now payload) (length (now output)) ⌝ }
     ensures { λ _. ⌜ now (output .exit) ≡ packetBytes f (now (nacks .entry)) (now (destination .entry)) (now (signature .entry)) (now (payload .entry)) atFrontOf now (output .entry) ⌝ }
 {
     let size = judge::before_signature(f.flags, destination.len()) + signature.len();

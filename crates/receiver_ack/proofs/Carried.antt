@@ -1,7 +1,7 @@
 -- A packet that carries the ack fields of a receiver beside its own number and payload, as our reader reads it: exactly these fields,
 -- NACKs and payload. The plain acknowledgement is one, with number 0 and no payload; a sender's packets are the others. Assumes nothing.
 use Prim.Native.Nat.{ℕ, _^_, _≤_, _<_}
-use mathlib.Core.Path.{_≡_, ap}
+use mathlib.Core.Path.{_≡_, sym, _∙_, ap}
 use mathlib.Core.Bool.{true, _&&_, not}
 use mathlib.Core.List.{List, []}
 use native.Mathlib.Omega.{arith}
@@ -9,15 +9,18 @@ use borrow.Author.Tests.{le-ltb, lt-ltb, leb-true}
 use lib.Dec.{leb}
 use lib.ListN.{length, drop}
 use Rattle.terms.specs.declared.StreamId.{StreamId}
+use Rattle.terms.specs.Answers.{values}
 use Rattle.terms.specs.Lists.{all}
 use Rattle.terms.proofs.Laws.{rung, and-left, and-right}
 use Rattle.wire.specs.BigEndian.{numbersAt}
 use Rattle.wire.proofs.RoundTrip.{fits, number-here}
-use Rattle.packet_read.specs.Reading.{answered, nackCount, readOf, destinationOf, signatureOf, payloadOf}
-use Rattle.packet_write.specs.Writing.{packetBytes, headParts, optionParts, writeOf}
+use Rattle.packet_read.specs.Reading.{nackCount, readOf, fieldsOf, destinationOf, signatureOf, payloadOf}
+use Rattle.packet_read.proofs.Looks.{nack-numbers}
+use Rattle.packet_write.specs.Writing.{written, packetBytes, headParts, optionParts, writeOf}
+use Rattle.packet_write.specs.RoundTrip.{Ranged, given}
 use Rattle.packet_write.specs.declared.Fields.{Fields}
 use Rattle.packet_write.proofs.Joins.{behind, optionsLength, packet-behind}
-use Rattle.packet_write.proofs.ReadsBack.{Ranged, given, reads-back}
+use Rattle.packet_write.proofs.ReadsBack.{reads-back}
 use Rattle.receiver_state.specs.Slots.{isFree, markOf}
 use Rattle.receiver_state.specs.Rules.{rulesOf}
 use Rattle.receiver_calls.specs.Meaning.{standing, isMissing}
@@ -32,7 +35,7 @@ use Rattle.receiver_ack.proofs.Claims.{through-at-most, nacks-missing, 
 
 -- The packet p reads as one of the receiver r's, under a number and with a payload: no leftover, no destination, no signature.
 pub record Carries (r : Receiver) (send recv : StreamId) (number : ℕ) (payload p : List ℕ) : Type 0 where
-  pub fields-read : readOf p ≡ answered (given (ackedFields (ackFieldsOf r) send recv number) (length (ackNacksOf r)) 0 0 (length payload))
+  pub fields-read : readOf p ≡ values (given (ackedFields (ackFieldsOf r) send recv number) (ackNacksOf r) [] [] payload)
   pub count-read : nackCount p ≡ length (ackNacksOf r)
   pub nacks-read : numbersAt 4 (nackCount p) 17 p ≡ ackNacksOf r
   pub no-destination : destinationOf p ≡ []
@@ -74,7 +77,8 @@ module _ (r : Receiver) (send recv : StreamId) where
         (nacks-missing r)
 
     -- with 65,535 bytes of room the writer takes it
-    taken : length payload ≤ 64491 → writeOf (ackedFields (ackFieldsOf r) send recv number) (ackNacksOf r) [] [] payload 65535 .refusal ≡ 0
+    taken : length payload ≤ 64491 → writeOf (ackedFields (ackFieldsOf r) send recv number) (ackNacksOf r) [] [] payload 65535
+        ≡ written (length (packetBytes (ackedFields (ackFieldsOf r) send recv number) (ackNacksOf r) [] [] payload)) 0
     unfolding fieldsFrom
     taken short =
         let m = missingFrom (r .next .0) (r .highest .0) (r .marks) in
@@ -90,11 +94,11 @@ module _ (r : Receiver) (send recv : StreamId) where
     acked-reads s t n short =
         let f = ackedFields (ackFieldsOf r) send recv number in
         let count = count-here f (ackNacksOf r) payload (nacks-few (r .next .0) (r .highest .0) (r .marks)) in
-        let back = reads-back f (ackNacksOf r) [] [] payload 65535 (ranged s t n) nacks-fit (taken short) in
+        let back = reads-back f (ackNacksOf r) [] [] payload 65535 _ (ranged s t n) nacks-fit (taken short) in
         record {
           fields-read = back .fields-back;
           count-read = count;
-          nacks-read = rw count (back .nacks-back);
+          nacks-read = sym (nack-numbers _ _ (back .fields-back)) ∙ back .nacks-back;
           no-destination = back .destination-back;
           no-signature = back .signature-back;
           payload-read = back .payload-back;
@@ -102,13 +106,13 @@ module _ (r : Receiver) (send recv : StreamId) where
 
   -- In the packet's own bytes: a number up to its ack-through is among its NACKs exactly if it is missing, ..
   module _ {number : ℕ} {payload : List ℕ} (p : List ℕ) (reads : Carries r send recv number payload p) where
-    pub through-read : readOf p .values .«ack_through» .0 ≡ ackThroughOf r
+    pub through-read : fieldsOf p .«ack_through» .0 ≡ ackThroughOf r
     through-read = rw (reads .fields-read)
 
-    pub nacks-claim : (n : ℕ) → n ≤ readOf p .values .«ack_through» .0 → isAmong n (numbersAt 4 (nackCount p) 17 p) ≡ isMissing r n
+    pub nacks-claim : (n : ℕ) → n ≤ fieldsOf p .«ack_through» .0 → isAmong n (numbersAt 4 (nackCount p) 17 p) ≡ isMissing r n
     nacks-claim n up = rw (reads .nacks-read) (nacks-told r n (omega (arith, through-read)))
 
     -- .. and absent from them exactly if it is taken, at most the s that the start came after, or held.
-    pub absence-claims : (store : List ℕ) (n : ℕ) → n ≤ readOf p .values .«ack_through» .0
+    pub absence-claims : (store : List ℕ) (n : ℕ) → n ≤ fieldsOf p .«ack_through» .0
         → not (isAmong n (numbersAt 4 (nackCount p) 17 p)) ≡ isReceived (standing r store n)
     absence-claims store n up = rw (reads .nacks-read) (absent-received r store n (omega (arith, through-read)))

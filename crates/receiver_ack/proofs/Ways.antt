@@ -5,24 +5,21 @@ use mathlib.Core.Bool.{Bool, true, false}
 use mathlib.Core.List.{List, [], _∷_}
 use native.Mathlib.Decide.{decLe}
 use native.Mathlib.Omega.{arith}
-use borrow.Author.Tests.{le-leb, lt-leb, le-ltb, ne-eqb, eq-eqb}
+use borrow.Author.Tests.{le-leb, lt-leb, le-ltb}
 use lib.Dec.{ltb}
 use lib.ListN.{length, getD, take, drop, length-append, List·getD-append}
 use lib.Seq.{take-at, take-append-le, length-take-le}
 use Rattle.terms.specs.declared.Refusal.{Refusal}
-use Rattle.terms.specs.declared.Refusal.the-variants.{OutputShort}
 use Rattle.terms.specs.declared.StreamId.{StreamId}
 use Rattle.terms.specs.Ladder.{_when_else_}
 use Rattle.terms.specs.Lists.{_atFrontOf_}
 use Rattle.terms.specs.Refusals.{numberOf}
 use Rattle.terms.proofs.Laws.{case}
-use Rattle.terms.proofs.Numbers.{number-some}
-use Rattle.packet_write.specs.Writing.{Said as W-Said, refused, written, said, packetLength, sizesOf, judgeOf, packetBytes, writeOf, outputAfter}
+use Rattle.packet_write.specs.Writing.{Written, written, saidWriting, packetLength, packetBytes, writeOf, outputAfter}
 use Rattle.packet_write.specs.declared.Fields.{Fields}
 use Rattle.packet_write.specs.declared.Writing.{Writing}
 use Rattle.packet_write.specs.declared.Writing.the-variants as W
 use Rattle.packet_write.proofs.Joins.{length-packet, length-options}
-use Rattle.packet_write.proofs.Passed.{refusal-of}
 use Rattle.terms.specs.Answers.{Said, refusal, values, _unlessRefused_else_}
 use Rattle.receiver_state.specs.Rules.{rules, slotFits}
 use Rattle.receiver_ack.specs.Missing.{missingFrom}
@@ -30,9 +27,6 @@ use Rattle.receiver_ack.specs.Fields.{atLeast255, ackNacks, ackThrough, 
 use Rattle.receiver_ack.specs.Acknowledge.{plainFields, plainAck, acknowledgeSaid, acknowledges}
 use Rattle.receiver_ack.specs.declared.AckFields.{AckFields}
 use Rattle.receiver_ack.proofs.Among.{missing-ascending, climbs}
-
-abbrev length-of : W-Said → ℕ
-length-of s = s .length-is
 
 -- FIELDS
 
@@ -127,24 +121,26 @@ module _ (through : ℕ) (send recv : StreamId) (number : ℕ) (nacks payload : 
   -- with a payload of at most 64,491 bytes the writer refuses it only for an output that is too short
   pub packet-written : (choked : Bool) (room : ℕ) → length nacks ≤ 255 → length payload ≤ 64491
       → writeOf (fieldsBy choked through send recv number) nacks [] [] payload room
-      ≡ (refused OutputShort when ltb room (length (packetBy choked through send recv number nacks payload)) else written (length (packetBy choked through send recv number nacks payload)) 0)
-  unfolding judgeOf sizesOf
+      ≡ (refusal 7 when ltb room (length (packetBy choked through send recv number nacks payload)) else written (length (packetBy choked through send recv number nacks payload)) 0)
+  unfolding writeOf
   packet-written true room few short =
-      let e : packetLength 64 (length nacks) 0 0 (length payload) ≡ 22 + 4 * length nacks + 2 + length payload = omega arith in
+      let e : packetLength (fieldsBy true through send recv number) nacks [] [] payload ≡ 22 + 4 * length nacks + 2 + length payload = omega arith in
       rw (packet-long true) (simp (le-ltb 255 (length nacks) few, e, le-ltb 65535 (22 + 4 * length nacks + 2 + length payload) (omega arith)))
   packet-written false room few short =
-      let e : packetLength 0 (length nacks) 0 0 (length payload) ≡ 22 + 4 * length nacks + 0 + length payload = omega arith in
+      let e : packetLength (fieldsBy false through send recv number) nacks [] [] payload ≡ 22 + 4 * length nacks + 0 + length payload = omega arith in
       rw (packet-long false) (simp (le-ltb 255 (length nacks) few, e, le-ltb 65535 (22 + 4 * length nacks + 0 + length payload) (omega arith)))
 
 -- PLAIN
 
-short-told : (t : Bool) (why : Refusal) (n : ℕ) → refused why ≡ (refused OutputShort when t else written n 0) → refusal (numberOf why) ≡ (refusal 7 when t else values (n ∷ []))
-short-told true why n e = ap refusal (ap refusal-of e)
-short-told false why n e = absurd (omega (arith, number-some why, ap refusal-of e))
+short-told : (t : Bool) (why : Refusal) (n : ℕ) → refusal (numberOf why) ≡ (refusal 7 when t else written n 0) → refusal (numberOf why) ≡ (refusal 7 when t else values (n ∷ []))
+short-told true why n e = ap refusal (cc)
+short-told false why n e = let z : _≡_ {A = ℕ} 0 1 = cc in absurd (omega arith)
 
-length-told : (t : Bool) (m at n : ℕ) → written m at ≡ (refused OutputShort when t else written n 0) → values (m ∷ []) ≡ (refusal 7 when t else values (n ∷ []))
-length-told true m at n e = absurd (omega (arith, ap refusal-of e))
-length-told false m at n e = ap (λ (k : ℕ). values (k ∷ [])) (ap length-of e)
+length-told : (t : Bool) (m at n : ℕ) → written m at ≡ (refusal 7 when t else written n 0) → values (m ∷ []) ≡ (refusal 7 when t else values (n ∷ []))
+length-told true m at n e = let z : _≡_ {A = ℕ} 0 1 = cc in absurd (omega arith)
+length-told false m at n e =
+    let w : _≡_ {A = Written} (record { length-is = m; signature-at = at }) (record { length-is = n; signature-at = 0 }) = cc in
+    ap (λ (x : Written). values (x .length-is ∷ [])) w
 
 module _ (next highest : ℕ) (marks : List ℕ) (send recv : StreamId) where
   pub ack-most : length (plainAck next highest marks send recv) ≤ 1044
@@ -155,25 +151,25 @@ module _ (next highest : ℕ) (marks : List ℕ) (send recv : StreamId) where
 
   -- what the writer answers to a plain ack
   pub ack-written : (room : ℕ) → writeOf (plainFields (fieldsFrom next highest marks) send recv) (nacksFrom next highest marks) [] [] [] room
-      ≡ (refused OutputShort when ltb room (length (plainAck next highest marks send recv)) else written (length (plainAck next highest marks send recv)) 0)
+      ≡ (refusal 7 when ltb room (length (plainAck next highest marks send recv)) else written (length (plainAck next highest marks send recv)) 0)
   unfolding plainAck fieldsFrom
   ack-written room =
       let m = missingFrom next highest marks in
       packet-written (ackThrough m highest) send recv 0 (nacksFrom next highest marks) [] (atLeast255 m) room (nacks-few next highest marks) (omega arith)
 
   module _ (acks : AckFields) (nacks output after : List ℕ) (w : Writing) (e : acks ≡ fieldsFrom next highest marks) (f : nacks ≡ nacksFrom next highest marks)
-      (says : said w ≡ writeOf (plainFields acks send recv) nacks [] [] [] (length output))
+      (says : saidWriting w ≡ writeOf (plainFields acks send recv) nacks [] [] [] (length output))
       (leaves : after ≡ outputAfter (plainFields acks send recv) nacks [] [] [] output) where
-    told : said w ≡ (refused OutputShort when ltb (length output) (length (plainAck next highest marks send recv)) else written (length (plainAck next highest marks send recv)) 0)
+    told : saidWriting w ≡ (refusal 7 when ltb (length output) (length (plainAck next highest marks send recv)) else written (length (plainAck next highest marks send recv)) 0)
     told = says ∙ rw (e, f) (ack-written (length output))
 
     pub plain-refused : (why : Refusal) → w ≡ W.Refused why
         → (refusal (numberOf why) ≡ (refusal 7 when ltb (length output) (length (plainAck next highest marks send recv)) else values (length (plainAck next highest marks send recv) ∷ [])))
         × (after ≡ output)
     plain-refused why g =
-        let s = sym (ap said g) ∙ says in (
-          short-told (ltb (length output) (length (plainAck next highest marks send recv))) why (length (plainAck next highest marks send recv)) (sym (ap said g) ∙ told),
-          leaves ∙ rw (ne-eqb (writeOf (plainFields acks send recv) nacks [] [] [] (length output) .refusal) 0 (λ z. omega (arith, number-some why, ap refusal-of s, z))),
+        let s = sym (ap saidWriting g) ∙ says in (
+          short-told (ltb (length output) (length (plainAck next highest marks send recv))) why (length (plainAck next highest marks send recv)) (sym (ap saidWriting g) ∙ told),
+          leaves ∙ rw (sym s),
         )
 
     pub plain-written : (n at : ℕ) → w ≡ W.Written n at
@@ -181,9 +177,9 @@ module _ (next highest : ℕ) (marks : List ℕ) (send recv : StreamId) where
         × (after ≡ plainAck next highest marks send recv atFrontOf output)
     unfolding plainAck
     plain-written n at g =
-        let s = sym (ap said g) ∙ says in (
-          length-told (ltb (length output) (length (plainAck next highest marks send recv))) n at (length (plainAck next highest marks send recv)) (sym (ap said g) ∙ told),
-          leaves ∙ rw (eq-eqb (writeOf (plainFields acks send recv) nacks [] [] [] (length output) .refusal) 0 (sym (ap refusal-of s)), e, f),
+        let s = sym (ap saidWriting g) ∙ says in (
+          length-told (ltb (length output) (length (plainAck next highest marks send recv))) n at (length (plainAck next highest marks send recv)) (sym (ap saidWriting g) ∙ told),
+          leaves ∙ rw (sym s, e, f),
         )
 
 -- ACKNOWLEDGE

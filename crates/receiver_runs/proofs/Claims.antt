@@ -1,6 +1,6 @@
 -- An acknowledgement asked at the end of a run claims nothing that did not arrive: a number up to ack-through is absent from the NACKs exactly
 -- if the state has it taken or held (the acknowledgement's laws), which at the end of a run means at most s, taken or held. Assumes nothing.
-use Prim.Native.Nat.{ℕ, _*_, _/_, _≤_, _<_, _^_}
+use Prim.Native.Nat.{ℕ, _≤_, _<_, _^_}
 use mathlib.Core.Path.{_≡_, sym, _∙_, ap}
 use mathlib.Core.Bool.{true, false, not}
 use mathlib.Core.List.{List}
@@ -14,11 +14,11 @@ use lib.ListN.{length}
 use Rattle.terms.specs.declared.StreamId.{StreamId}
 use Rattle.terms.proofs.Laws.{case, and-left, and-right}
 use Rattle.wire.specs.BigEndian.{numbersAt}
-use Rattle.packet_read.specs.Reading.{Said, nackCount}
+use Rattle.packet_read.specs.Reading.{nackCount}
+use Rattle.packet_read.proofs.Looks.{nack-numbers}
 use Rattle.receiver_calls.specs.Meaning.{standing}
 use Rattle.receiver_calls.proofs.Laws.{slot-fits}
 use Rattle.receiver_ack.specs.Missing.{isAmong, isReceived}
-use Rattle.receiver_ack.specs.Fields.{ackNacksOf}
 use Rattle.receiver_ack.specs.Acknowledge.{plainAckOf}
 use Rattle.receiver_ack.proofs.Carried.{absence-claims}
 use Rattle.receiver_ack.proofs.PlainAck.{ReadsAs, acknowledge-reads, acknowledge-written, acknowledge-enough, at-most-1044}
@@ -61,16 +61,14 @@ module _ (run : Run) where
   module _ (send recv : StreamId) (packet : List ℕ) (reads : ReadsAs (endOf run .state) send recv packet) where
     -- its NACKs are where our reader finds them
     nacks-are : nacksIn packet ≡ numbersAt 4 (nackCount packet) 17 packet
-    nacks-are =
-        let e : 4 * length (ackNacksOf (endOf run .state)) / 4 ≡ length (ackNacksOf (endOf run .state)) = omega arith in
-        rw (reads .fields-read) (ap (λ (k : ℕ). numbersAt 4 k 17 packet) (e ∙ sym (reads .count-read)))
+    nacks-are = nack-numbers packet _ (reads .fields-read)
 
     absent : (n : ℕ) → n ≤ throughIn packet → not (isAmong n (nacksIn packet)) ≡ isReceived (standing (endOf run .state) (endOf run .store) n)
     absent n up = rw nacks-are (absence-claims (endOf run .state) send recv packet reads (endOf run .store) n up)
 
     honest : Honest run packet
     honest = record {
-      readable = ap (λ (x : Said). x .refusal) (reads .fields-read);
+      readable = rw (reads .fields-read);
       absent-is = λ n up.
           (λ e. received-is n (sym (absent n up) ∙ ap not e), λ h. not-true (isAmong n (nacksIn packet)) (absent n up ∙ is-received n h));
     }

@@ -1,5 +1,5 @@
 -- Demand 3 of document 01, as it is promised of every run.
-use Prim.Native.Nat.{ℕ, _+_, _/_, _≤_, _<_}
+use Prim.Native.Nat.{ℕ, _+_, _≤_, _<_}
 use mathlib.Core.Path.{_≡_}
 use mathlib.Core.Bool.{Bool, true, false, _&&_, not}
 use mathlib.Core.List.{List, [], _∷_}
@@ -9,8 +9,7 @@ use lib.Dec.{eqb}
 use lib.ListN.{length, getElem?}
 use Rattle.terms.specs.declared.StreamId.{StreamId}
 use Rattle.terms.specs.Lists.{all, part}
-use Rattle.wire.specs.BigEndian.{numbersAt}
-use Rattle.packet_read.specs.Reading.{readOf}
+use Rattle.packet_read.specs.Reading.{readOf, fieldsOf, nackNumbersOf}
 use Rattle.terms.specs.Answers.{values}
 use Rattle.receiver_calls.specs.Meaning.{standing, held, isMissing}
 use Rattle.receiver_ack.specs.Missing.{isAmong}
@@ -66,12 +65,12 @@ pub record InOrder (run : Run) : Type 0 where
   -- and the next to take is the one behind the last taken
   pub next-is : endOf run .state .next .0 ≡ run .s .0 + 1 + length (takenIn (historyOf run))
 
--- what our reader finds in a packet: its ack-through, and its NACKs, four bytes each
+-- what our reader finds in a packet: its ack-through, and its NACKs as numbers
 abbrev pub throughIn : List ℕ → ℕ
-throughIn packet = readOf packet .values .«ack_through» .0
+throughIn packet = fieldsOf packet .«ack_through» .0
 
 abbrev pub nacksIn : List ℕ → List ℕ
-nacksIn packet = numbersAt 4 (readOf packet .values .nacks .len / 4) (readOf packet .values .nacks .at) packet
+nacksIn packet = nackNumbersOf packet
 
 -- an acknowledgement asked at the end of a run, and its packet, which is as long as it answered and stands at the output's front
 abbrev pub ackOf : Run → StreamId → StreamId → List ℕ → Event
@@ -84,7 +83,7 @@ packetOf e size = part (e .output) 0 size
 -- finds that a number up to ack-through is absent from the NACKs exactly if it is at most s, taken or held. Every acknowledgement of a
 -- run is asked at the end of the run before it.
 pub record Honest (run : Run) (packet : List ℕ) : Type 0 where
-  pub readable : readOf packet .refusal ≡ 0
+  pub readable : readOf packet ≡ values (fieldsOf packet)
   pub absent-is : (n : ℕ) → n ≤ throughIn packet → (isAmong n (nacksIn packet) ≡ false) ↔ ((n ≤ run .s .0) ⊎ (Taken run n ⊎ Held run n))
 
 -- The packet never exceeds 1,044 bytes, and an output that long always holds it.

@@ -10,7 +10,7 @@ use Rattle.terms.specs.declared.StreamId.{StreamId}
 use Rattle.terms.proofs.Laws.{rung}
 use Rattle.wire.specs.BigEndian.{numbersAt}
 use Rattle.packet_read.specs.Flags.{bit}
-use Rattle.packet_read.specs.Reading.{nackCount, readOf, payloadOf}
+use Rattle.packet_read.specs.Reading.{nackCount, readOf, fieldsOf, payloadOf}
 use Rattle.terms.specs.Answers.{values}
 use Rattle.receiver_state.specs.Rules.{rulesOf}
 use Rattle.receiver_state.specs.declared.Receiver.{Receiver}
@@ -26,16 +26,16 @@ use Rattle.sender_meaning.proofs.Submitting.{submit-done, submit-count,
 
 -- What our reader finds in the packet p of a number and a chunk, with the ack fields of the receiver r.
 pub record ReadsAsData (r : Receiver) (send recv : StreamId) (number : ℕ) (payload p : List ℕ) : Type 0 where
-  pub readable : readOf p .refusal ≡ 0
-  pub send-read : readOf p .values .«send_stream_id» .0 ≡ send .0
-  pub recv-read : readOf p .values .«recv_stream_id» .0 ≡ recv .0
-  pub number-read : readOf p .values .«seq_nro» .0 ≡ number
-  pub through-read : readOf p .values .«ack_through» .0 ≡ ackThroughOf r
+  pub readable : readOf p ≡ values (fieldsOf p)
+  pub send-read : fieldsOf p .«send_stream_id» .0 ≡ send .0
+  pub recv-read : fieldsOf p .«recv_stream_id» .0 ≡ recv .0
+  pub number-read : fieldsOf p .«seq_nro» .0 ≡ number
+  pub through-read : fieldsOf p .«ack_through» .0 ≡ ackThroughOf r
   pub count-read : nackCount p ≡ length (ackNacksOf r)
   pub nacks-read : numbersAt 4 (nackCount p) 17 p ≡ ackNacksOf r
-  pub flags-read : readOf p .values .flags ≡ ackFieldsOf r .flags
+  pub flags-read : fieldsOf p .flags ≡ ackFieldsOf r .flags
   -- NO ACK is clear: its ack fields count
-  pub acks-count : bit 10 (readOf p .values .flags) ≡ false
+  pub acks-count : bit 10 (fieldsOf p .flags) ≡ false
   pub payload-read : payloadOf p ≡ payload
   -- the whole of it, as every packet that carries a receiver's ack fields
   pub carries : Carries r send recv number payload p

@@ -12,13 +12,11 @@ use Rattle.terms.specs.Refusals.{numberOf}
 use Rattle.terms.specs.declared.Refusal.{Refusal}
 use Rattle.terms.specs.declared.StreamId.{StreamId}
 use Rattle.terms.proofs.Laws.{and-left, and-right, past}
-use Rattle.terms.proofs.Numbers.{number-some}
 use Rattle.wire.proofs.Parts.{rest-back}
-use Rattle.packet_write.specs.Writing.{Said as W-Said, written, said, writeOf, outputAfter}
+use Rattle.packet_write.specs.Writing.{Written, written, saidWriting, writeOf, outputAfter}
 use Rattle.packet_write.specs.declared.Fields.{Fields}
 use Rattle.packet_write.specs.declared.Writing.{Writing}
 use Rattle.packet_write.specs.declared.Writing.the-variants as W
-use Rattle.packet_write.proofs.Passed.{refusal-of}
 use Rattle.terms.specs.Answers.{refusal, values}
 use Rattle.receiver_state.specs.Rules.{rulesOf, slotFits}
 use Rattle.receiver_state.specs.declared.Receiver.{Receiver}
@@ -69,17 +67,20 @@ module _ (acks : AckFields) (nacks : List ℕ) (k : Acking acks nacks) (send rec
 
   -- the writer is lent the store from a place on
   module _ (store after : List ℕ) (from : ℕ) (w : Writing) (short : length payload ≤ 1812) (inside : from + (1044 + length payload) ≤ length store)
-      (says : said w ≡ writeOf (ackedFields acks send recv number) nacks [] [] payload (length (take (length store - from) (drop from store))))
+      (says : saidWriting w ≡ writeOf (ackedFields acks send recv number) nacks [] [] payload (length (take (length store - from) (drop from store))))
       (leaves : after ≡ outputAfter (ackedFields acks send recv number) nacks [] [] payload (take (length store - from) (drop from store))) where
     judged : writeOf (ackedFields acks send recv number) nacks [] [] payload (length (take (length store - from) (drop from store)))
         ≡ written (length (ackedPacket acks nacks send recv number payload)) 0
     judged = chunk-written (length (take (length store - from) (drop from store))) short (simp (length-take, length-drop) (omega arith))
 
     pub never-refused : (why : Refusal) → w ≡ W.Refused why → ⊥
-    never-refused why e = let s = sym (ap said e) ∙ says ∙ judged in omega (arith, number-some why, ap refusal-of s)
+    never-refused why e = let s = sym (ap saidWriting e) ∙ says ∙ judged in let z : _≡_ {A = ℕ} 0 1 = cc in omega arith
 
     pub chunk-long : (n at : ℕ) → w ≡ W.Written n at → n ≡ length (ackedPacket acks nacks send recv number payload)
-    chunk-long n at e = ap (λ (s : W-Said). s .length-is) (sym (ap said e) ∙ says ∙ judged)
+    chunk-long n at e =
+        let s = sym (ap saidWriting e) ∙ says ∙ judged in
+        let w : _≡_ {A = Written} (record { length-is = n; signature-at = at }) (record { length-is = length (ackedPacket acks nacks send recv number payload); signature-at = 0 }) = cc in
+        ap (λ (x : Written). x .length-is) w
 
     pub chunk-short : (n at : ℕ) → w ≡ W.Written n at → n ≤ 2856
     chunk-short n at e = omega (arith, chunk-long n at e, chunk-most)

@@ -7,7 +7,7 @@ use native.Mathlib.Nat.{add-zero, add-suc, suc-add, le-of-suc-le-suc, not-suc-le
 use native.Mathlib.Omega.{arith}
 use lib.ListN.{length, getD, drop, length-take, length-drop}
 use lib.Seq.{getD-take, getD-drop}
-use Rattle.terms.specs.Answers.{Said, refusal, values}
+use Rattle.terms.specs.Answers.{Saying, refusal, values}
 use Rattle.terms.specs.Ladder.{_when_else_}
 use Rattle.terms.specs.Lists.{all, each, part}
 
@@ -74,7 +74,7 @@ or-false-right true false e = refl
 or-false-right false b e = e
 
 -- a rung of a ladder that ends in values was passed
-pub past : (number : ℕ) (test : Bool) (rest : Said) (given : List ℕ) → (refusal number when test else rest) ≡ values given
+pub past : {A : Type 0} (number : ℕ) (test : Bool) (rest : Saying A) (given : A) → (refusal number when test else rest) ≡ values given
     → (test ≡ false) × (rest ≡ values given)
 past number true rest given h = let z : _≡_ {A = ℕ} 0 1 = cc in absurd (omega arith)
 past number false rest given h = (refl, h)

@@ -8,14 +8,19 @@ use Rattle.terms.specs.declared.Given.{Given}
 use Rattle.terms.specs.declared.Given.the-variants as G
 
 infixr 20 _unlessRefused_else_
-pub data Said : Type 0 where
+-- of a call that gives an A where it is done
+pub data Saying (A : Type 0) : Type 0 where
   -- refused, with document 01's number
-  refusal : ℕ → Said
-  -- done, and these are given
-  values : List ℕ → Said
+  refusal : ℕ → Saying A
+  -- done, and this is given
+  values : A → Saying A
+
+-- of a call that gives numbers, or none
+abbrev pub Said : Type 0
+Said = Saying (List ℕ)
 
 -- every refusal changes nothing: what a call leaves, where it was done and where it was refused
-abbrev pub _unlessRefused_else_ : {A : Type 0} → A → Said → A → A
+abbrev pub _unlessRefused_else_ : {A B : Type 0} → A → Saying B → A → A
 after unlessRefused refusal number else before = before
 after unlessRefused values given else before = after
 

@@ -132,3 +132,11 @@ pub number-moved : (k i a : ℕ) (p d r : List ℕ) → drop a p ≡ d ++ r → 
 number-moved k i a p d r e h =
     let long : k ≤ length (drop i d) = simp length-drop (omega arith) in
     rw (← drop-drop i a p, e, drop-append-le i d r (omega arith), take-append-le k (drop i d) r long)
+
+-- and several of them, one behind the other
+pub numbers-moved : (k n i a : ℕ) (p d r : List ℕ) → drop a p ≡ d ++ r → i + k * n ≤ length d → numbersAt k n (a + i) p ≡ numbersAt k n i d
+numbers-moved k zero i a p d r e h = refl
+numbers-moved k (suc n) i a p d r e h =
+    let s : k * suc n ≡ k + k * n = omega arith in
+    let next : a + i + k ≡ a + (i + k) = omega arith in
+    rw (number-moved k i a p d r e (omega arith), next, numbers-moved k n (i + k) a p d r e (omega arith))

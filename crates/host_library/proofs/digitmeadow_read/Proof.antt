@@ -1,8 +1,9 @@
 -- `host_library::digitmeadow_read` meets its contract: it gives what `packet_read::read` says, in numbers. Assumes nothing.
 use Prim.Native.Nat.{ℕ}
 use mathlib.Core.Path.{sym, _∙_, ap}
-use Rattle.packet_read.specs.Reading.{said, nothing}
-use Rattle.host_numbers.specs.Fields.{fieldsOf}
+use Rattle.terms.specs.Answers.{refusal}
+use Rattle.packet_read.specs.Reading.{saidReading}
+use Rattle.host_numbers.specs.Fields.{hostedRead}
 use borrow.Author.Needs.{needs}
 use Rattle.host_library.proofs.digitmeadow_read.Statement.{statement}
 use Rattle.host_library.proofs.digitmeadow_read.Tie as tie
@@ -28,13 +29,13 @@ of-refusal-requires c κs = search needs
 returns : tie.Need-returns
 returns c =
     let r = c .before .before .before .before in
-    c .of-packet .ensures ∙ ap fieldsOf (sym (ap said (c .before .before .p .given .1)) ∙ r .read .ensures)
+    c .of-packet .ensures ∙ ap hostedRead (sym (ap saidReading (c .before .before .p .given .1)) ∙ r .read .ensures)
 
 returns-2 : tie.Need-returns-2
 returns-2 c =
     let r = c .before .before .before .before .before in
-    c .of-refusal .ensures ∙ ap (λ (n : ℕ). fieldsOf (record { refusal = n; values = nothing })) (c .before .number .ensures)
-    ∙ ap fieldsOf (sym (ap said (c .before .before .before .why .given .1)) ∙ r .read .ensures)
+    c .of-refusal .ensures ∙ ap (λ (n : ℕ). hostedRead (refusal n)) (c .before .number .ensures)
+    ∙ ap hostedRead (sym (ap saidReading (c .before .before .before .why .given .1)) ∙ r .read .ensures)
 
 pub digitmeadow-read-spec : {M : Type 1} → statement M
 digitmeadow-read-spec =

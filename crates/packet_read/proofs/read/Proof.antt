@@ -1,7 +1,8 @@
 -- `packet_read::read` meets its contract: each test of a length is a rung of the ladder, and then the options are. Assumes nothing.
 use mathlib.Core.Path.{_≡_, sym, _∙_, ap}
 use denote.Ref.{now}
-use Rattle.packet_read.specs.Reading.{answered, withOptions, readOf}
+use Rattle.terms.specs.Answers.{values}
+use Rattle.packet_read.specs.Reading.{withOptions, readOf}
 use Rattle.packet_read.proofs.Ways.{too-long, no-header, no-nacks, no-options, past-options, fields-are}
 use borrow.Author.Needs.{needs}
 use Rattle.packet_read.proofs.read.Statement.{statement}
@@ -91,7 +92,7 @@ returns-6 c =
     let e = o .before .before in
     let b = e .before in
     let n = b .before .before in
-    ap answered (c .fields .ensures ∙ fields-are _ (n .before .before .if1 .left) (n .before .if2 .left) _ (n .be8 .ensures) (b .before .if3 .left) _ (b .be16 .ensures) _ (o .before .be162 .ensures) _)
+    ap values (c .fields .ensures ∙ fields-are _ (n .before .before .if1 .left) (n .before .if2 .left) _ (n .be8 .ensures) (b .before .if3 .left) _ (b .be16 .ensures) _ (o .before .be162 .ensures) _)
     ∙ sym (ap (withOptions _) (c .before .before .f .given .1))
     ∙ past o
 

@@ -8,30 +8,30 @@ use denote.Ref.{now}
 use lib.ListN.{length}
 use Rattle.packet_read.specs.Flags.{bit}
 use Rattle.packet_write.specs.Writing.{partsUnfit}
-use Rattle.packet_write.proofs.Ways.{many, offline-block, offline-alone, for-clear-bits, another-form, another-length, by-sizes}
+use Rattle.packet_write.proofs.Ways.{many, offline-block, offline-alone, for-clear-bits, another-form, another-length, by-length}
 use borrow.Author.Needs.{needs}
 use Rattle.packet_write.proofs.judge.judge.Statement.{statement}
 use Rattle.packet_write.proofs.judge.judge.Tie as tie
 
-few : (c : tie.Else2) → c .before .before .before .before .before .args .nacks ≤ 255
+few : (c : tie.Else2) → length (now (c .before .before .before .before .before .before .before .before .args .nacks)) ≤ 255
 few c = c .before .before .before .if1 .left
 
-off : (c : tie.Else2) → bit 11 (c .before .before .before .before .before .args .fields .flags) ≡ false
+off : (c : tie.Else2) → bit 11 (c .before .before .before .before .before .before .before .before .args .fields .flags) ≡ false
 off c = sym (c .before .has2 .ensures) ∙ c .if2 .left
 
-fit : (c : tie.Else4) → let a = c .before .before .before .before .before .before .before .args in
-    partsUnfit (a .fields) (length (now (a .destination))) (a .signature) ≡ false
+fit : (c : tie.Else4) → let a = c .before .before .before .before .before .before .before .before .before .before .args in
+    partsUnfit (a .fields) (now (a .destination)) (now (a .signature)) ≡ false
 fit c = sym (c .before .parts-unfit .ensures) ∙ c .if4 .left
 
-form : (c : tie.After-other-form) → let a = c .before .before .before .before .before .before .before .before .args in
+form : (c : tie.After-other-form) → let a = c .before .before .before .before .before .before .before .before .before .before .before .args in
     c .other-form .result ≡ (bit 5 (a .fields .flags) && not (isDestination (now (a .destination))))
 form c = c .other-form .ensures ∙ rw (c .before .before .before .before .before .has .ensures)
 
 returns : tie.Need-returns
 returns c = many _ _ _ _ _ _ (c .if1 .taken)
 
-long : (c : tie.After-other-length) → let a = c .before .before .before .before .before .before .before .before .before .before .before .args in
-    c .other-length .result ≡ (bit 3 (a .fields .flags) && (bit 5 (a .fields .flags) && not (eqb (a .signature) 64)))
+long : (c : tie.After-other-length) → let a = c .before .before .before .before .before .before .before .before .before .before .before .before .before .before .args in
+    c .other-length .result ≡ (bit 3 (a .fields .flags) && (bit 5 (a .fields .flags) && not (eqb (length (now (a .signature))) 64)))
 long c = c .other-length .ensures ∙ rw (c .before .has3 .ensures, c .before .before .before .before .before .before .before .before .has .ensures)
 
 has-requires : tie.Need-has-requires
@@ -90,7 +90,7 @@ returns-7 c =
     let o = l .before .before in
     let g = o .before .before in
     let e = g .before .before in
-    c .sizes .ensures ∙ by-sizes _ _ _ _ _ _ (few e) (off e) (fit g) (sym (form (o .before)) ∙ o .if5 .left) (sym (long l) ∙ c .before .if6 .left)
+    c .sizes .ensures ∙ by-length _ _ _ _ _ _ (few e) (off e) (fit g) (sym (form (o .before)) ∙ o .if5 .left) (sym (long l) ∙ c .before .if6 .left)
 
 pub judge-spec : {M : Type 1} → statement M
 judge-spec =

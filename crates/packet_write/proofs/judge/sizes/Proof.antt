@@ -2,7 +2,9 @@
 use Prim.Native.Nat.{_+_, _*_, _≤_}
 use mathlib.Core.Path.{_≡_, _∙_}
 use native.Mathlib.Omega.{arith}
-use Rattle.packet_write.specs.Writing.{signatureAt}
+use Rattle.terms.specs.Ladder.{_when_else_}
+use Rattle.packet_read.specs.Flags.{bit}
+use Rattle.packet_read.specs.Options.{signatureAt}
 use Rattle.packet_write.proofs.Ways.{part-long, too-long, no-room, it-fits}
 use borrow.Author.Needs.{needs}
 use Rattle.packet_write.proofs.judge.sizes.Statement.{statement}
@@ -14,14 +16,16 @@ short c = c .before .part-long .ensures .1 (c .if1 .left)
 
 -- the signature begins where the definition says
 place : (c : tie.After-before-signature) → let a = c .before .before .before .args in
-    22 + 4 * a .nacks + c .before-signature .result ≡ signatureAt (a .flags) (a .nacks) (a .destination)
-place c = rw (c .before-signature .ensures .0)
+    22 + 4 * a .nacks + c .before-signature .result ≡ signatureAt (22 + 4 * a .nacks) (a .flags) (a .destination)
+place c = omega (arith, c .before-signature .ensures .0)
 
 part-long-requires : tie.Need-part-long-requires
 part-long-requires c κs = search needs
 
 returns : tie.Need-returns
-returns c = part-long _ _ _ _ _ _ (omega (arith, c .before .part-long .ensures .0 (c .if1 .taken)))
+returns c =
+    let a = c .before .before .args in
+    part-long (a .flags) (a .nacks) (a .destination) (a .signature) (a .payload) (a .room) (omega (arith, c .before .part-long .ensures .0 (c .if1 .taken)))
 
 mul-signature-at : tie.Need-mul-signature-at
 mul-signature-at c = search needs
@@ -42,10 +46,14 @@ add-length-2 : tie.Need-add-length-2
 add-length-2 c = omega (arith, short (c .before))
 
 returns-2 : tie.Need-returns-2
-returns-2 c = too-long _ _ _ _ _ _ _ (place (c .before)) (c .if2 .taken)
+returns-2 c =
+    let a = c .before .before .before .before .args in
+    too-long (a .flags) (a .nacks) (a .destination) (a .signature) (a .payload) (a .room) _ (place (c .before)) (c .if2 .taken)
 
 returns-3 : tie.Need-returns-3
-returns-3 c = no-room _ _ _ _ _ _ _ (place (c .before .before)) (c .before .if2 .left) (c .if3 .taken)
+returns-3 c =
+    let a = c .before .before .before .before .before .args in
+    no-room (a .flags) (a .nacks) (a .destination) (a .signature) (a .payload) (a .room) _ (place (c .before .before)) (c .before .if2 .left) (c .if3 .taken)
 
 has-requires : tie.Need-has-requires
 has-requires c κs = search needs
@@ -56,7 +64,9 @@ size-if-requires c κs = search needs
 returns-4 : tie.Need-returns-4
 returns-4 c =
     let e = c .before .before in
-    it-fits _ _ _ _ _ _ _ (place (e .before .before)) (e .before .if2 .left) (e .if3 .left) _ (c .size-if .ensures .0 ∙ rw (c .before .has .ensures))
+    let a = e .before .before .before .before .before .args in
+    let begins : c .size-if .result ≡ (22 + 4 * a .nacks + e .before .before .before-signature .result when bit 3 (a .flags) else 0) = c .size-if .ensures .0 ∙ rw (c .before .has .ensures) in
+    it-fits (a .flags) (a .nacks) (a .destination) (a .signature) (a .payload) (a .room) _ (place (e .before .before)) (e .before .if2 .left) (e .if3 .left) _ begins
 
 pub sizes-spec : {M : Type 1} → statement M
 sizes-spec =
