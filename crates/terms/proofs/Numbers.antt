@@ -17,7 +17,8 @@ table =
     R.StateBroken ∷ R.LastNumber ∷ R.BelowNext ∷ R.BeyondSpan ∷ R.AlreadyHeld ∷
     R.PayloadLong ∷ R.NothingThere ∷ R.SlotsFew ∷ R.SubmitLength ∷ R.NumbersSpent ∷
     R.PacketsWait ∷ R.WindowFull ∷ R.AckBeyond ∷ R.ClockWrong ∷ R.TimerEarly ∷
-    R.LengthUnfit ∷ R.TimeLarge ∷ []
+    R.MarkWrong ∷ R.VersionOther ∷ R.KindUnknown ∷ R.RecordCut ∷ R.LengthUnfit ∷
+    R.TimeLarge ∷ []
 
 -- the refusal of a number: the first that has it
 firstWith : ℕ → List Refusal → Refusal
@@ -54,6 +55,10 @@ back R.WindowFull = (refl, refl)
 back R.AckBeyond = (refl, refl)
 back R.ClockWrong = (refl, refl)
 back R.TimerEarly = (refl, refl)
+back R.MarkWrong = (refl, refl)
+back R.VersionOther = (refl, refl)
+back R.KindUnknown = (refl, refl)
+back R.RecordCut = (refl, refl)
 back R.LengthUnfit = (refl, refl)
 back R.TimeLarge = (refl, refl)
 

@@ -63,6 +63,14 @@ pub enum Refusal {
     ClockWrong,
     // timer unarmed or not due
     TimerEarly,
+    // mark of a recorded night wrong, or cut
+    MarkWrong,
+    // version of a recorded night other than 1, or cut
+    VersionOther,
+    // kind of a record unknown, or kind 0 repeated or not first
+    KindUnknown,
+    // record cut, none at all, or data that does not fit its kind
+    RecordCut,
     // length on a serial line under 22, or above the lent buffer
     LengthUnfit,
     // time to smooth above 4,294,967,295
@@ -100,6 +108,10 @@ impl Refusal {
             Refusal::AckBeyond => 23,
             Refusal::ClockWrong => 24,
             Refusal::TimerEarly => 25,
+            Refusal::MarkWrong => 26,
+            Refusal::VersionOther => 27,
+            Refusal::KindUnknown => 28,
+            Refusal::RecordCut => 29,
             Refusal::LengthUnfit => 30,
             Refusal::TimeLarge => 31,
         }

@@ -86,6 +86,18 @@ enum-told-26 c = search needs
 enum-told-27 : tie.Need-enum-told-27
 enum-told-27 c = search needs
 
+enum-told-28 : tie.Need-enum-told-28
+enum-told-28 c = search needs
+
+enum-told-29 : tie.Need-enum-told-29
+enum-told-29 c = search needs
+
+enum-told-30 : tie.Need-enum-told-30
+enum-told-30 c = search needs
+
+enum-told-31 : tie.Need-enum-told-31
+enum-told-31 c = search needs
+
 returns : tie.Need-returns
 returns c = sym (ap numberOf (c .enum-told .given .1))
 
@@ -167,6 +179,18 @@ returns-26 c = sym (ap numberOf (c .enum-told26 .given .1))
 returns-27 : tie.Need-returns-27
 returns-27 c = sym (ap numberOf (c .enum-told27 .given .1))
 
+returns-28 : tie.Need-returns-28
+returns-28 c = sym (ap numberOf (c .enum-told28 .given .1))
+
+returns-29 : tie.Need-returns-29
+returns-29 c = sym (ap numberOf (c .enum-told29 .given .1))
+
+returns-30 : tie.Need-returns-30
+returns-30 c = sym (ap numberOf (c .enum-told30 .given .1))
+
+returns-31 : tie.Need-returns-31
+returns-31 c = sym (ap numberOf (c .enum-told31 .given .1))
+
 pub number-spec : {M : Type 1} → statement M
 number-spec =
     tie.close
@@ -198,6 +222,10 @@ number-spec =
     enum-told-25
     enum-told-26
     enum-told-27
+    enum-told-28
+    enum-told-29
+    enum-told-30
+    enum-told-31
     returns
     returns-2
     returns-3
@@ -224,4 +252,8 @@ number-spec =
     returns-24
     returns-25
     returns-26
-    returns-27)
+    returns-27
+    returns-28
+    returns-29
+    returns-30
+    returns-31)

@@ -1,0 +1,2 @@
+-- Read byte by byte, a file gives what it says as a whole (Whole).
+pub mod Whole
