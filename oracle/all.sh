@@ -26,7 +26,7 @@ topic write "$seed" 120000
 topic receive "$seed" 20000
 topic 'receive slips'
 topic ack "$seed" 20000
-topic timer "$seed" 1000260
+topic timer "$seed" 1000261
 topic sender "$seed" 20000
 [ "$who" = model ] || exit 0
 head -c 7 crates/drive/stdin >target/oracle/script

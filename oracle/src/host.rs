@@ -256,19 +256,42 @@ impl Host {
     }
 
     pub fn acks(&mut self, through: u32, nacks: Vec<u32>) {
-        let (before, unsampled, clock) = (self.rig.unacked().len(), !self.rig.sampled(), Bench::clock());
+        let (flying, before, clock) = (self.rig.unacked(), self.before(), Bench::clock());
         self.rig.handle_acks(through, &nacks);
-        let count = before - self.rig.unacked().len();
+        let left = self.rig.unacked();
+        let ages = flying.into_iter().filter(|packet| !left.contains(packet)).map(|(_, sent)| (clock - sent) as u32);
+        let ages: Vec<u32> = ages.collect();
+        let count = ages.len();
         self.clock = clock;
         for place in &mut self.places {
             *place = place.filter(|number| self.rig.packet(*number).is_some());
         }
-        let (rto, listed) = match self.rig.sampled() {
-            true => timer::rto(&self.rig.timing(), unsampled && count == 1),
-            false => (9_000, None),
-        };
-        self.rig.set_rto(rto);
+        let listed = self.measured(before, &ages);
         self.note(Call::Acks { through, nacks, clock }, "acks", vec![0, count as u64]).listed = listed;
         self.show();
+    }
+
+    /// The Rust's timing: RTT and deviation.
+    fn before(&self) -> timer::Before {
+        let timing = self.rig.timing();
+        self.rig.sampled().then_some((timing.rtt as u32, timing.deviation as u32))
+    }
+
+    /// The Rust took these samples, one after the other. Its RTT and its own deviation must be what they make of the timing before them; then the
+    /// mended deviation and RTO are set in their place, and the reason is told where they are others.
+    fn measured(&mut self, before: timer::Before, ages: &[u32]) -> Option<&'static str> {
+        let (mut ours, mut rust, mut last) = (before, before, None);
+        for age in ages {
+            let step = timer::unmended(rust, *age);
+            let mended = timer::mended(ours, *age, &step);
+            ours = Some((mended.rtt as u32, mended.deviation as u32));
+            rust = Some((step.rtt as u32, step.deviation as u32));
+            last = Some(mended);
+        }
+        assert_eq!(self.before(), rust, "the Rust's own samples");
+        let mended = last?;
+        let listed = timer::reason(&mended, &self.rig.timing(), before.is_none() && ages.len() == 1);
+        self.rig.set_timing(&mended);
+        listed
     }
 }

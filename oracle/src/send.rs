@@ -10,7 +10,7 @@ use crate::{
     host::{Host, CHUNK, OUTPUT},
     runtime::Bench,
     step::Step,
-    timer::{FIRST, HIGH, LOW, ROUNDED},
+    timer::{DEVIATION, FIRST, HIGH, LOW, ROUNDED},
 };
 use std::{
     collections::BTreeSet,
@@ -26,7 +26,7 @@ const LATEST: u64 = (1 << 32) - 100_000;
 pub struct Run(Vec<Step>);
 
 impl Case for Run {
-    const LISTED: &'static [&'static str] = &[LOW, HIGH, FIRST, ROUNDED, OUTPUT, MISSING, SLOTS, NUMBERS, NACKS];
+    const LISTED: &'static [&'static str] = &[LOW, HIGH, FIRST, ROUNDED, DEVIATION, OUTPUT, MISSING, SLOTS, NUMBERS, NACKS];
 
     fn make(seed: u64, index: usize) -> Self {
         let mut random = Random::of(seed, index);

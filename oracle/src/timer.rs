@@ -11,14 +11,15 @@ pub const LOW: &str = "RTO held to 1,000";
 pub const HIGH: &str = "RTO held to 60,000";
 pub const FIRST: &str = "first RTO";
 pub const ROUNDED: &str = "deviation rounded before it is multiplied";
+pub const DEVIATION: &str = "deviation against the time before its update";
 
 /// RTT and deviation before a sample; none before the first.
-type Before = Option<(u32, u32)>;
+pub type Before = Option<(u32, u32)>;
 
 pub struct Case(Call);
 
 impl common::Case for Case {
-    const LISTED: &'static [&'static str] = &[LOW, HIGH, FIRST, ROUNDED];
+    const LISTED: &'static [&'static str] = &[LOW, HIGH, FIRST, ROUNDED, DEVIATION];
 
     fn make(seed: u64, index: usize) -> Self {
         // Every window first.
@@ -49,7 +50,8 @@ impl common::Case for Case {
 }
 
 /// The smallest input of each listed difference, in the order of `LISTED`: a first sample where one can show it.
-const SMALLEST: [(Before, u32); 4] = [(None, 0), (None, 30_001), (None, 334), (Some((0, 334)), 0)];
+const SMALLEST: [(Before, u32); 5] =
+    [(None, 0), (None, 30_001), (None, 334), (Some((0, 334)), 0), (Some((1, 1)), 0)];
 
 /// Half are drawn until the RTO lies strictly between its bounds, where its formula is compared; the others are of every size.
 fn any(random: &mut Random) -> (Before, u32) {
@@ -83,20 +85,45 @@ fn any_size(random: &mut Random) -> u32 {
     }
 }
 
-/// RTT and deviation are the Rust's. The RTO is document 01's over them.
+/// The RTT is the Rust's, the deviation and the RTO are mended.
 fn sampled(before: Before, taken: u32) -> (Answer, Option<&'static str>) {
-    let rust = sample(before, taken);
-    let (ours, listed) = rto(&rust, before.is_none());
-    (Answer::new("sample", &[rust.rtt, rust.deviation, ours]), listed)
+    let rust = unmended(before, taken);
+    let ours = mended(before, taken, &rust);
+    (Answer::new("sample", &[ours.rtt, ours.deviation, ours.rto]), reason(&ours, &rust, before.is_none()))
 }
 
-/// Document 01's RTO over the Rust's RTT and deviation after a sample; where the Rust has another, the reason is named.
-pub fn rto(rust: &Timing, first: bool) -> (u64, Option<&'static str>) {
+/// After a sample: the Rust's RTT, the deviation that RFC 6298's formula makes of the Rust's RTT and deviation before it, and document
+/// 01's RTO over both. A first deviation is the Rust's own.
+pub fn mended(before: Before, taken: u32, rust: &Timing) -> Timing {
+    let deviation = before.map_or(rust.deviation, |(rtt, deviation)| weighed(deviation, rtt.into(), taken));
+    Timing { rtt: rust.rtt, deviation, rto: (rust.rtt + 4 * deviation).clamp(1_000, 60_000) }
+}
+
+/// A quarter of how far the sample lies from a time, and three of the deviation before it.
+fn weighed(deviation: u32, rtt: u64, taken: u32) -> u64 {
+    (3 * u64::from(deviation) + rtt.abs_diff(taken.into())) / 4
+}
+
+/// What the Rust's own order makes of a sample: the deviation is measured against the RTT after its update.
+pub fn unmended(before: Before, taken: u32) -> Timing {
+    let rust = sample(before, taken);
+    if let Some((_, deviation)) = before {
+        assert_eq!(rust.deviation, weighed(deviation, rust.rtt, taken));
+    }
+    rust
+}
+
+/// Why the Rust has another deviation or RTO than ours, where it has.
+pub fn reason(ours: &Timing, rust: &Timing, first: bool) -> Option<&'static str> {
+    assert_eq!(ours.rtt, rust.rtt);
+    if ours.deviation != rust.deviation {
+        assert!(!first, "a first deviation is the same");
+        return Some(DEVIATION);
+    }
     let held = |rto: u64| rto.clamp(1_000, 60_000);
-    let ours = held(rust.rtt + 4 * rust.deviation);
     let listed = match rust.rto {
-        rto if rto == ours => None,
-        rto if held(rto) == ours => Some(if rto < 1_000 { LOW } else { HIGH }),
+        rto if rto == ours.rto => None,
+        rto if held(rto) == ours.rto => Some(if rto < 1_000 { LOW } else { HIGH }),
         _ if first => Some(FIRST),
         _ => Some(ROUNDED),
     };
@@ -106,7 +133,7 @@ pub fn rto(rust: &Timing, first: bool) -> (u64, Option<&'static str>) {
     if listed == Some(ROUNDED) {
         assert!((1..4).contains(&(rust.rto - rust.rtt - 4 * rust.deviation)), "less than one whole deviation");
     }
-    (ours, listed)
+    listed
 }
 
 /// A stream with this window and one packet in flight.

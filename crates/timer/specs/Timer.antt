@@ -1,4 +1,5 @@
--- Document 01's timer: RFC 6298 in whole milliseconds, every division rounded down. R is the sample.
+-- Document 01's timer: RFC 6298 in whole milliseconds, every division rounded down. R is the sample. The deviation is that of document 02, request [3]:
+-- measured against RTT before its update, as RFC 6298, section 2.3, has it.
 use Prim.Native.Nat.{ℕ, _+_, _-_, _*_, _/_, _^_, max, min}
 use mathlib.Core.Bool.{Bool, true, _&&_}
 use lib.Dec.{ltb}
@@ -9,13 +10,13 @@ use Rattle.timer.specs.declared.Timing.the-variants.{Unsampled, Sampled}
 abbrev pub ∣_−_∣ : ℕ → ℕ → ℕ
 ∣ a − b ∣ = max a b - min a b
 
--- RTT' = (7·RTT + R)/8
+-- deviation' = (3·deviation + |RTT − R|)/4
+abbrev pub deviationOf : ℕ → ℕ → ℕ → ℕ
+deviationOf rtt deviation R = (3 * deviation + ∣ rtt − R ∣) / 4
+
+-- then RTT' = (7·RTT + R)/8
 abbrev pub smoothedOf : ℕ → ℕ → ℕ
 smoothedOf rtt R = (7 * rtt + R) / 8
-
--- then deviation' = (3·deviation + |RTT' − R|)/4
-abbrev pub deviationOf : ℕ → ℕ → ℕ → ℕ
-deviationOf rtt deviation R = (3 * deviation + ∣ smoothedOf rtt R − R ∣) / 4
 
 -- first sample: RTT = R, deviation = R/2; later: both as above
 unfoldable pub sampledOf : Timing → ℕ → Timing

@@ -26,12 +26,12 @@ fn smoothed(rtt: u32, sample: u32) -> u32
     ((7 * (rtt as u64) + (sample as u64)) / 8) as u32
 }
 
-// The deviation after a later sample. Ports `Rto::calculate_rto`. It is measured against the smoothed time after that one's
-// update, as document 01 has it.
+// The deviation after a later sample. Ports `Rto::calculate_rto`, mended: it is measured against the smoothed time before that
+// one's update, as RFC 6298 has it.
 fn deviated(rtt: u32, deviation: u32, sample: u32) -> u32
     ensures { λ r. ⌜ r ≡ deviationOf rtt deviation sample ⌝ }
 {
-    let off = apart(smoothed(rtt, sample), sample);
+    let off = apart(rtt, sample);
     ((3 * (deviation as u64) + (off as u64)) / 4) as u32
 }
 

@@ -66,9 +66,9 @@ table =
     grows 63 (126 ∷ 127 ∷ 128 ∷ 128 ∷ []) ∷
     grows 64 (65 ∷ []) ∷
     resends (9001 ∷ []) 1 1 1 ∷
-    -- samples 800, 1,600: RTO 2,400; then RTT 900, deviation 475, RTO 2,800
+    -- samples 800, 1,600: RTO 2,400; then RTT 900, deviation 500, RTO 2,900 (document 02, request [3])
     smooths (800 ∷ []) 800 400 2400 ∷
-    smooths (800 ∷ 1600 ∷ []) 900 475 2800 ∷
+    smooths (800 ∷ 1600 ∷ []) 900 500 2900 ∷
     -- ages 9,001, 50, 9,001 at RTO 9,000, window 3: one resent, and the window falls by 1; age 9,000: none
     resends (9001 ∷ 50 ∷ 9001 ∷ []) 3 1 2 ∷
     resends (9000 ∷ []) 3 0 3 ∷

@@ -140,10 +140,11 @@ impl Rig {
     pub fn set_window(&mut self, window: usize) {
         self.stream.window_size = window;
     }
-    /// Replaces a sampled RTO, so that a run can go on under document 01's rule after a listed difference.
-    pub fn set_rto(&mut self, milliseconds: u64) {
-        if let Rto::Sampled((rto, _, _)) = &mut self.stream.rto {
-            *rto = Duration::from_millis(milliseconds);
+    /// Replaces a sampled deviation and RTO, so that a run can go on under our rules after a listed difference.
+    pub fn set_timing(&mut self, timing: &Timing) {
+        if let Rto::Sampled((rto, deviation, _)) = &mut self.stream.rto {
+            *rto = Duration::from_millis(timing.rto);
+            *deviation = Duration::from_millis(timing.deviation);
         }
     }
 

@@ -78,7 +78,7 @@ fn timer() {
     let first = sampled(None, 800);
     assert_eq!(rto(first), 2_400);
     let second = sampled(first, 1_600);
-    assert_eq!((second, rto(second)), (Some((900, 475)), 2_800));
+    assert_eq!((second, rto(second)), (Some((900, 500)), 2_900));
 }
 
 fn ages() {

@@ -1,4 +1,4 @@
-//! Document 01, "Sender": the timer of RFC 6298 in whole milliseconds, and the window.
+//! Document 01, "Sender", with document 02's request [3]: the timer of RFC 6298 in whole milliseconds, and the window.
 
 /// RTT and deviation; none before a sample.
 pub type Timing = Option<(u32, u32)>;
@@ -8,8 +8,8 @@ pub fn sampled(before: Timing, sample: u32) -> Timing {
     let (rtt, deviation) = match before {
         None => (r, r / 2),
         Some((rtt, deviation)) => {
-            let rtt = (7 * u64::from(rtt) + r) / 8;
-            (rtt, (3 * u64::from(deviation) + rtt.abs_diff(r)) / 4)
+            let rtt = u64::from(rtt);
+            ((7 * rtt + r) / 8, (3 * u64::from(deviation) + rtt.abs_diff(r)) / 4)
         }
     };
     Some((rtt as u32, deviation as u32))
