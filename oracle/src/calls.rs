@@ -40,7 +40,7 @@ pub struct SenderRecord {
 /// Stream ids stand in wire order: send, receive.
 pub enum Call {
     Read(Vec<u8>),
-    IsDestination(Vec<u8>),
+    Destination(Vec<u8>),
     Write { fields: Fields, output: Buffer },
     Sample { before: Option<(u32, u32)>, sample: u32 },
     Grown(u32),
@@ -67,7 +67,7 @@ impl Call {
         let call = |letter: u8| Script::default().u8(letter);
         match self {
             Self::Read(packet) => call(b'r').bytes(packet),
-            Self::IsDestination(bytes) => call(b'd').bytes(bytes),
+            Self::Destination(bytes) => call(b'd').bytes(bytes),
             Self::Write { fields, output } => fields_of(fields).buffer(output),
             Self::Sample { before, sample } => {
                 let (rtt, deviation) = before.unwrap_or((0, 0));

@@ -82,31 +82,73 @@ impl Sample {
 
 /// The flagged options in wire order; a signature without a destination has any length.
 fn options(random: &mut Random, flags: u16) -> Vec<u8> {
+    let kind = random.pick(&KINDS);
+    options_of(random, flags, kind)
+}
+
+/// The same, with a destination of this kind.
+fn options_of(random: &mut Random, flags: u16, kind: Kind) -> Vec<u8> {
     let mut options = vec![];
     if flags & DELAY != 0 {
         options.extend(random.bytes(2));
     }
     if flags & FROM != 0 {
-        options.extend(destination(random));
+        options.extend(destination_of(random, kind));
     }
     if flags & MAX_SIZE != 0 {
         options.extend(random.bytes(2));
     }
     if flags & SIGNATURE != 0 {
-        let length = if flags & FROM != 0 { 64 } else { [0, 40, 64, random.below(140)][random.below(4)] };
+        let length = if flags & FROM != 0 { kind.signs } else { [0, 40, 64, random.below(140)][random.below(4)] };
         options.extend(random.bytes(length));
     }
     options
 }
 
-/// A destination of document 01's form: 384 key bytes, type 5, L, key type 7.
-pub fn destination(random: &mut Random) -> Vec<u8> {
-    let length = if random.one_in(2) { 4 } else { random.from_to(4, 90) };
+/// A kind of destination: certificate type, the least L, key type, and how long its signatures are.
+#[derive(Clone, Copy)]
+pub struct Kind {
+    certificate: u8,
+    least: usize,
+    key: u16,
+    pub signs: usize,
+}
+
+const fn kind(certificate: u8, least: usize, key: u16, signs: usize) -> Kind {
+    Kind { certificate, least, key, signs }
+}
+
+/// Every kind that document 02's list takes.
+pub const KINDS: [Kind; 7] = [
+    kind(0, 0, 0, 40),
+    kind(5, 4, 0, 40),
+    kind(5, 4, 1, 64),
+    kind(5, 4, 2, 96),
+    kind(5, 8, 3, 132),
+    kind(5, 4, 7, 64),
+    kind(5, 4, 11, 64),
+];
+
+/// A destination of any of them, and how long its signatures are.
+pub fn destination(random: &mut Random) -> (Vec<u8>, usize) {
+    let kind = random.pick(&KINDS);
+    (destination_of(random, kind), kind.signs)
+}
+
+/// 384 key bytes, certificate type, L, and in type 5 the key type.
+pub fn destination_of(random: &mut Random, kind: Kind) -> Vec<u8> {
+    let length = if kind.certificate == 0 || random.one_in(2) { kind.least } else { random.from_to(kind.least, 90) };
+    formed(random, kind.certificate, length, kind.key)
+}
+
+/// Bytes of this form, whether it is taken or not.
+fn formed(random: &mut Random, certificate: u8, length: usize, key: u16) -> Vec<u8> {
     let mut destination = random.bytes(384);
-    destination.push(5);
+    destination.push(certificate);
     destination.extend((length as u16).to_be_bytes());
-    destination.extend([0, 7]);
-    destination.extend(random.bytes(length - 2));
+    let mut inside = random.bytes(length);
+    key.to_be_bytes().iter().zip(&mut inside).for_each(|(byte, place)| *place = *byte);
+    destination.extend(inside);
     destination
 }
 
@@ -134,7 +176,11 @@ pub fn damaged(random: &mut Random) -> Vec<u8> {
             packet[certificate + 1..certificate + 3].copy_from_slice(&[0, length]);
         }
         5 => off_by_one(&mut packet[certificate + 1..certificate + 3], random),
-        6 => packet[certificate + 3 + random.below(2)] = random.below(12) as u8,
+        6 => {
+            // The key type, where there is one.
+            let place = certificate + 3 + random.below(2);
+            packet.get_mut(place).map(|byte| *byte = random.below(14) as u8);
+        }
         _ if random.one_in(2) => off_by_one(&mut packet[at - 2..at], random),
         _ => packet[at - 4] |= (OFFLINE >> 8) as u8,
     }
@@ -160,13 +206,14 @@ pub fn limits() -> Vec<Vec<u8>> {
     {
         // Every length of the option area around its own, and, where there is a destination, around its two ends.
         let whole = options(&mut random, flags);
-        for cut in (0..=whole.len()).filter(|cut| *cut < 8 || (383..396).contains(cut) || cut + 70 > whole.len()) {
+        for cut in (0..=whole.len()).filter(|cut| *cut < 8 || (383..396).contains(cut) || cut + 140 > whole.len()) {
             packets.push(Sample::plain(flags, whole[..cut].to_vec()).packet());
             packets.push(Sample::plain(flags | OFFLINE, whole[..cut].to_vec()).packet());
         }
         packets.push(Sample::plain(flags, [whole, vec![9]].concat()).packet());
     }
     packets.extend((0..16).map(|bit| Sample::plain(1 << bit, vec![1; 3]).packet()));
+    packets.extend(key_types(&mut random));
 
     for count in [1, 254, 255] {
         let mut sample = Sample::plain(0, vec![]);
@@ -176,5 +223,26 @@ pub fn limits() -> Vec<Vec<u8>> {
     }
     // The longest option area that fits, and one byte too many.
     packets.extend([65_513, 65_514].map(|length| Sample::plain(DELAY, vec![3; length]).packet()));
+    packets
+}
+
+/// Destinations at each limit of document 02's list: each type with its end and its signature one short, whole and one long, and every type
+/// from 0 to 13 at L 0, 3, 4, 7 and 8.
+fn key_types(random: &mut Random) -> Vec<Vec<u8>> {
+    let mut packets = vec![];
+    for kind in KINDS {
+        let whole = options_of(random, FROM | SIGNATURE, kind);
+        for cut in [386, whole.len() - kind.signs - 1, whole.len() - kind.signs, whole.len() - 1, whole.len()] {
+            packets.push(Sample::plain(FROM, whole[..cut].to_vec()).packet());
+            packets.push(Sample::plain(FROM | SIGNATURE, whole[..cut].to_vec()).packet());
+        }
+        packets.push(Sample::plain(FROM | SIGNATURE, [whole, vec![9]].concat()).packet());
+    }
+    for certificate in [0, 1, 4, 5, 6] {
+        for (length, key) in [0, 3, 4, 7, 8].into_iter().flat_map(|length| (0..14).map(move |key| (length, key))) {
+            let options = [formed(random, certificate, length, key), vec![7; 132]].concat();
+            packets.push(Sample::plain(FROM | SIGNATURE, options).packet());
+        }
+    }
     packets
 }

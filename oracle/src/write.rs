@@ -106,7 +106,7 @@ fn any(random: &mut Random) -> Case {
         resend: random.byte(),
         flags,
         delay: if flags & DELAY != 0 { random.word() as u16 } else { 0 },
-        destination: if flags & FROM != 0 { samples::destination(random) } else { vec![] },
+        destination: if flags & FROM != 0 { signing_with_64(random) } else { vec![] },
         max: if flags & MAX_SIZE != 0 { random.word() as u16 } else { 0 },
         signature: if flags & SIGNATURE == 0 {
             vec![]
@@ -135,6 +135,13 @@ fn any(random: &mut Random) -> Case {
     };
     case.output = random.buffer(output);
     case
+}
+
+/// A destination whose signatures have 64 bytes, as every signature that the Rust writes has.
+fn signing_with_64(random: &mut Random) -> Vec<u8> {
+    let kinds: Vec<_> = samples::KINDS.into_iter().filter(|kind| kind.signs == 64).collect();
+    let kind = random.pick(&kinds);
+    samples::destination_of(random, kind)
 }
 
 impl Case {

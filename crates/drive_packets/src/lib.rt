@@ -71,11 +71,7 @@ fn read(bank: &mut Bank, packet: &[u8]) {
 }
 
 fn destination(bank: &mut Bank, bytes: &[u8]) {
-    if packet_read::is_destination(bytes) {
-        registers::answer(bank, 1);
-    } else {
-        registers::answer(bank, 0);
-    }
+    registers::answer(bank, packet_read::signature_length(bytes) as u64);
 }
 
 // The fields of 'w' that are numbers; its NACKs, destination, signature, payload and output are the fields 4, 8, 10, 11 and 12.

@@ -7,16 +7,14 @@ use native.Mathlib.Omega.{arith}
 use borrow.Author.Tests.{ltb-false}
 use lib.Dec.{ltb}
 use lib.ListN.{length, length-take, length-drop}
-use Rattle.terms.specs.declared.Refusal.{Refusal}
-use Rattle.terms.specs.Answers.{Saying}
+use Rattle.terms.specs.Answers.{Saying, refusal, values}
 use Rattle.terms.proofs.Laws.{rung}
+use Rattle.packet_read.specs.Going.{_andThen_}
 use Rattle.packet_read.specs.Flags.{bit}
-use Rattle.packet_read.specs.Options.{destinationAt, signatureAt, signatureSize, afterDestination, following, destinationSize, optionsIn}
+use Rattle.packet_read.specs.Options.{destinationAt, signatureAt, destinationThere, signatureSize, afterDestination, optionsIn}
 use Rattle.packet_read.specs.Reading.{noFields, fieldsIn, fieldsOf, flagsOf, optionsAt, optionsEnd, withOptions, readOf, spanned}
-use Rattle.packet_read.specs.declared.DestinationFound.{DestinationFound}
-use Rattle.packet_read.specs.declared.DestinationFound.the-variants as D
-use Rattle.packet_read.specs.declared.Options.{Options}
-use Rattle.packet_read.specs.declared.Options.the-variants as O
+use Rattle.packet_read.specs.Destination.{Whole}
+use Rattle.packet_read.specs.declared.Found.{Found}
 use Rattle.packet_read.specs.declared.Packet.{Packet}
 use Rattle.packet_read.specs.declared.Span.{Span}
 use Rattle.packet_read.proofs.Form.{size-inside}
@@ -30,36 +28,38 @@ spanned-length p s h = simp (length-take, length-drop) (omega arith)
 record LaidSaid (p : List ℕ) (s : Saying Packet) : Type 0 where
   laid : Laid p (fieldsIn s)
 
-record LaidOptions (p : List ℕ) (o : Options) : Type 0 where
-  laid : Laid p (fieldsIn (withOptions p o))
+record LaidOptions (p : List ℕ) (o : Saying Found) : Type 0 where
+  laid : Laid p (fieldsIn (o andThen withOptions p))
 
 empty : (p : List ℕ) → Laid p noFields
 empty p = record { nacks-first = omega arith; then-destination = omega arith; then-signature = omega arith; then-payload = omega arith }
 
-none : (p : List ℕ) (r : Refusal) → LaidOptions p (O.Refused r)
-none p r = record { laid = empty p }
+none : (p : List ℕ) (n : ℕ) → LaidOptions p (refusal n)
+none p n = record { laid = empty p }
 
 module _ (p : List ℕ) (fits : optionsEnd p ≤ length p) where
-  after : (size : ℕ) → destinationAt (optionsAt p) (flagsOf p) + size ≤ optionsEnd p → LaidOptions p (afterDestination p (optionsAt p) (optionsEnd p) (flagsOf p) size)
+  after : (d : Whole) → destinationAt (optionsAt p) (flagsOf p) + d .size ≤ optionsEnd p → LaidOptions p (afterDestination p (optionsAt p) (optionsEnd p) (flagsOf p) d)
   unfolding afterDestination
-  after size h =
-      rung (LaidOptions p) (ltb (optionsEnd p) (signatureAt (optionsAt p) (flagsOf p) size)) (λ _. none p _) λ _.
+  after d h =
+      let place = signatureAt (optionsAt p) (flagsOf p) (d .size) in
+      let size = signatureSize p (optionsAt p) (optionsEnd p) (flagsOf p) d in
+      rung (LaidOptions p) (ltb (optionsEnd p) place) (λ _. none p _) λ _.
       rung (LaidOptions p) (bit 11 (flagsOf p) && not (bit 5 (flagsOf p))) (λ _. none p _) λ _.
       rung (LaidOptions p) (bit 11 (flagsOf p) && bit 5 (flagsOf p)) (λ _. none p _) λ _.
-      rung (LaidOptions p) (ltb (optionsEnd p) (signatureAt (optionsAt p) (flagsOf p) size + signatureSize p (optionsAt p) (optionsEnd p) (flagsOf p) size)) (λ _. none p _) λ e.
-      let i = ltb-false (optionsEnd p) (signatureAt (optionsAt p) (flagsOf p) size + signatureSize p (optionsAt p) (optionsEnd p) (flagsOf p) size) e in
+      rung (LaidOptions p) (ltb (optionsEnd p) (place + size)) (λ _. none p _) λ e.
+      let i = ltb-false (optionsEnd p) (place + size) e in
       record { laid = record { nacks-first = omega arith; then-destination = omega arith; then-signature = omega (arith, i); then-payload = omega (arith, fits) } }
 
-  followed : (d : DestinationFound) → d ≡ destinationSize p (optionsAt p) (optionsEnd p) (flagsOf p) → destinationAt (optionsAt p) (flagsOf p) ≤ optionsEnd p
-      → LaidOptions p (following p (optionsAt p) (optionsEnd p) (flagsOf p) d)
-  followed (D.Refused r) e h = none p r
-  followed (D.Whole size) e h = after size (size-inside p (destinationAt (optionsAt p) (flagsOf p)) (optionsEnd p) size (bit 5 (flagsOf p)) h (sym e))
+  followed : (w : Saying Whole) → w ≡ destinationThere p (optionsAt p) (optionsEnd p) (flagsOf p) → destinationAt (optionsAt p) (flagsOf p) ≤ optionsEnd p
+      → LaidOptions p (w andThen afterDestination p (optionsAt p) (optionsEnd p) (flagsOf p))
+  followed (refusal n) e h = none p n
+  followed (values d) e h = after d (size-inside p (destinationAt (optionsAt p) (flagsOf p)) (optionsEnd p) d (bit 5 (flagsOf p)) h (sym e))
 
   optioned : LaidOptions p (optionsIn p (optionsAt p) (optionsEnd p) (flagsOf p))
   unfolding optionsIn
   optioned =
       rung (LaidOptions p) (ltb (optionsEnd p) (destinationAt (optionsAt p) (flagsOf p))) (λ _. none p _) λ e.
-      followed (destinationSize p (optionsAt p) (optionsEnd p) (flagsOf p)) refl (ltb-false _ _ e)
+      followed (destinationThere p (optionsAt p) (optionsEnd p) (flagsOf p)) refl (ltb-false _ _ e)
 
 said-laid : (p : List ℕ) → LaidSaid p (readOf p)
 unfolding readOf

@@ -7,7 +7,7 @@ use native.Mathlib.Omega.{arith}
 use Rattle.terms.specs.Ladder.{_when_else_}
 use Rattle.terms.proofs.Numbers.{number-one}
 use Rattle.terms.proofs.Determined.{determined}
-use Rattle.packet_read.specs.Destination.{isDestination}
+use Rattle.packet_read.specs.Destination.{signsOf}
 use Rattle.packet_read.specs.Reading.{saidReading, readOf}
 use Rattle.packet_read.specs.declared.Reading.{Reading}
 use Rattle.packet_read.specs.declared.Reading.the-variants as R
@@ -22,8 +22,8 @@ reading-one (R.Read p) (R.Read q) e = ap R.Read (cc)
 pub read-determined : (packet : List ℕ) (a b : Reading) → saidReading a ≡ readOf packet → saidReading b ≡ readOf packet → a ≡ b
 read-determined packet a b p q = reading-one a b (determined p q)
 
-pub is-destination-determined : (bytes : List ℕ) (a b : Bool) → a ≡ isDestination bytes → b ≡ isDestination bytes → a ≡ b
-is-destination-determined bytes a b p q = determined p q
+pub signature-length-determined : (bytes : List ℕ) (a b : ℕ) → a ≡ signsOf bytes → b ≡ signsOf bytes → a ≡ b
+signature-length-determined bytes a b p q = determined p q
 
 -- of the layer below, the one that asks nothing
 pub size-if-determined : (there : Bool) (size a b : ℕ) → a ≡ (size when there else 0) → b ≡ (size when there else 0) → a ≡ b

@@ -1,3 +1,4 @@
+pub mod Going
 pub mod Flags
 pub mod Destination
 pub mod Options

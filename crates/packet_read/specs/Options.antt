@@ -4,16 +4,21 @@ use Prim.Native.Nat.{ℕ, _+_, _-_}
 use mathlib.Core.Bool.{_&&_, not}
 use mathlib.Core.List.{List}
 use lib.Dec.{ltb}
+use Rattle.terms.specs.Answers.{Saying, refusal, values}
 use Rattle.terms.specs.Ladder.{_when_else_}
-use Rattle.terms.specs.declared.Refusal.the-variants.{OptionCut, OfflineAlone, OfflineBlock}
+use Rattle.terms.specs.Refusals.{numberOf}
 use Rattle.wire.specs.BigEndian.{numberAt}
+use Rattle.packet_read.specs.Going.{_andThen_}
 use Rattle.packet_read.specs.Flags.{bit}
-use Rattle.packet_read.specs.Destination.{destinationIn}
-use Rattle.packet_read.specs.declared.DestinationFound.{DestinationFound}
-use Rattle.packet_read.specs.declared.DestinationFound.the-variants as D
+use Rattle.packet_read.specs.Destination.{Whole, destinationIn}
 use Rattle.packet_read.specs.declared.Found.{Found}
 use Rattle.packet_read.specs.declared.Options.{Options}
 use Rattle.packet_read.specs.declared.Options.the-variants as O
+
+-- what an answer says
+abbrev pub saidOptions : Options → Saying Found
+saidOptions (O.Refused r) = refusal (numberOf r)
+saidOptions (O.Found found) = values found
 
 -- an option area that starts at `at`
 module _ (at flags : ℕ) where
@@ -27,40 +32,44 @@ module _ (at flags : ℕ) where
   abbrev pub signatureAt : ℕ → ℕ
   signatureAt size = maxAt size + (2 when bit 7 flags else 0)
 
+abbrev pub noDestination : Whole
+noDestination = record { size = 0; signs = 0 }
+
 -- of the packet p, up to `end`
 module _ (p : List ℕ) (at end flags : ℕ) where
-  -- the size of the destination, 0 where it is absent, or the refusal
-  abbrev pub destinationSize : DestinationFound
-  destinationSize = destinationIn p (destinationAt at flags) end when bit 5 flags else D.Whole 0
+  -- the destination, or that of no byte where it is absent
+  abbrev pub destinationThere : Saying Whole
+  destinationThere = destinationIn p (destinationAt at flags) end when bit 5 flags else values noDestination
 
-  -- what follows a destination of `size` bytes
-  module _ (size : ℕ) where
-    -- 64 bytes with a destination; without one, all the option bytes that remain
+  -- what follows the destination d
+  module _ (d : Whole) where
+    -- as long as its signatures are; without a destination, all the option bytes that remain
     abbrev pub signatureSize : ℕ
-    signatureSize = (64 when bit 5 flags else (end - signatureAt at flags size)) when bit 3 flags else 0
+    signatureSize = (d .signs when bit 5 flags else (end - signatureAt at flags (d .size))) when bit 3 flags else 0
 
     abbrev pub found : Found
     found = record {
       delay = numberAt 2 at p when bit 6 flags else 0;
-      destination = record { at = destinationAt at flags; len = size };
-      «max_size» = numberAt 2 (maxAt at flags size) p when bit 7 flags else 0;
-      signature = record { at = signatureAt at flags size; len = signatureSize };
-      leftover = end - (signatureAt at flags size + signatureSize);
+      destination = record { at = destinationAt at flags; len = d .size };
+      «max_size» = numberAt 2 (maxAt at flags (d .size)) p when bit 7 flags else 0;
+      signature = record { at = signatureAt at flags (d .size); len = signatureSize };
+      leftover = end - (signatureAt at flags (d .size) + signatureSize);
     }
 
-    unfoldable pub afterDestination : Options
+    unfoldable pub afterDestination : Saying Found
     afterDestination =
-        O.Refused OptionCut when ltb end (signatureAt at flags size) else
-        O.Refused OfflineAlone when bit 11 flags && not (bit 5 flags) else
-        O.Refused OfflineBlock when bit 11 flags && bit 5 flags else
-        O.Refused OptionCut when ltb end (signatureAt at flags size + signatureSize) else
-        O.Found found
+        -- option area ends inside the maximum size
+        refusal 3 when ltb end (signatureAt at flags (d .size)) else
+        -- bit 11 without bit 5
+        refusal 5 when bit 11 flags && not (bit 5 flags) else
+        -- bit 11 with bit 5
+        refusal 6 when bit 11 flags && bit 5 flags else
+        -- option area ends inside the signature
+        refusal 3 when ltb end (signatureAt at flags (d .size) + signatureSize) else
+        values found
 
-  abbrev pub following : DestinationFound → Options
-  following (D.Refused r) = O.Refused r
-  following (D.Whole size) = afterDestination size
-
-  unfoldable pub optionsIn : Options
+  unfoldable pub optionsIn : Saying Found
   optionsIn =
-      O.Refused OptionCut when ltb end (destinationAt at flags) else
-      following destinationSize
+      -- option area ends inside the delay
+      refusal 3 when ltb end (destinationAt at flags) else
+      (destinationThere andThen afterDestination)

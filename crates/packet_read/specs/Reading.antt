@@ -8,12 +8,11 @@ use Rattle.terms.specs.Answers.{Saying, refusal, values}
 use Rattle.terms.specs.Ladder.{_when_else_}
 use Rattle.terms.specs.Refusals.{numberOf}
 use Rattle.wire.specs.BigEndian.{numberAt, numbersAt}
+use Rattle.packet_read.specs.Going.{_andThen_}
 use Rattle.packet_read.specs.Options.{optionsIn}
 use Rattle.packet_read.specs.declared.Span.{Span}
 use Rattle.packet_read.specs.declared.Packet.{Packet}
 use Rattle.packet_read.specs.declared.Found.{Found}
-use Rattle.packet_read.specs.declared.Options.{Options}
-use Rattle.packet_read.specs.declared.Options.the-variants as O
 use Rattle.packet_read.specs.declared.Reading.{Reading}
 use Rattle.packet_read.specs.declared.Reading.the-variants as R
 
@@ -54,9 +53,8 @@ fieldsRead p n end flags found = record {
   payload = record { at = end; len = length p - end };
 }
 
-abbrev pub withOptions : List ℕ → Options → Saying Packet
-withOptions p (O.Refused r) = refusal (numberOf r)
-withOptions p (O.Found found) = values (fieldsRead p (nackCount p) (optionsEnd p) (flagsOf p) found)
+abbrev pub withOptions : List ℕ → Found → Saying Packet
+withOptions p found = values (fieldsRead p (nackCount p) (optionsEnd p) (flagsOf p) found)
 
 -- the answer, by document 01's numbers in its order: 2, 1, then the options' own in wire order
 unfoldable pub readOf : List ℕ → Saying Packet
@@ -67,7 +65,7 @@ readOf p =
     refusal 1 when ltb (length p) 22 else
     refusal 1 when ltb (length p) (optionsAt p) else
     refusal 1 when ltb (length p) (optionsEnd p) else
-    withOptions p (optionsIn p (optionsAt p) (optionsEnd p) (flagsOf p))
+    (optionsIn p (optionsAt p) (optionsEnd p) (flagsOf p) andThen withOptions p)
 
 -- the fields where nothing is read: every number 0, every part empty
 abbrev pub noFields : Packet

@@ -7,7 +7,7 @@ pub mod flags;
 ghost use mathlib.Core.Path.{_≡_};
 ghost use Prim.Native.Nat.{_+_, _*_, _≤_};
 ghost use lib.ListN.{length};
-ghost use Rattle.packet_read.specs.Destination.{isDestination};
+ghost use Rattle.packet_read.specs.Destination.{signsOf};
 ghost use Rattle.packet_read.specs.Reading.{saidReading, readOf, fieldsRead};
 use terms::Refusal;
 use terms::SeqNo;
@@ -43,9 +43,9 @@ pub enum Reading {
     Refused(Refusal),
 }
 
-// A destination at the front of the option bytes that remain: its length, or the refusal.
+// A destination at the front of the option bytes that remain: its length and that of its signatures, or the refusal.
 pub enum DestinationFound {
-    Whole(usize),
+    Whole(usize, usize),
     Refused(Refusal),
 }
 
@@ -63,13 +63,13 @@ pub enum Options {
     Refused(Refusal),
 }
 
-// Whether the bytes are exactly one destination, with no byte behind it.
-pub fn is_destination(bytes: &[u8]) -> bool
-    ensures { λ r. ⌜ r ≡ isDestination (now (bytes .entry)) ⌝ }
+// How long the signatures of this destination are, 0 where the bytes are not exactly one destination, with no byte behind it.
+pub fn signature_length(bytes: &[u8]) -> usize
+    ensures { λ r. ⌜ r ≡ signsOf (now (bytes .entry)) ⌝ }
 {
     match area::destination_in(bytes, 0, bytes.len()) {
-        DestinationFound::Whole(size) => size == bytes.len(),
-        DestinationFound::Refused(_) => false,
+        DestinationFound::Whole(size, signs) => flags::size_if(size == bytes.len(), signs),
+        DestinationFound::Refused(_) => 0,
     }
 }
 

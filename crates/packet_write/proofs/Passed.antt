@@ -11,7 +11,7 @@ use Rattle.terms.specs.Answers.{values}
 use Rattle.terms.specs.Ladder.{_when_else_}
 use Rattle.terms.proofs.Laws.{past, both-false}
 use Rattle.packet_read.specs.Flags.{bit}
-use Rattle.packet_read.specs.Destination.{isDestination}
+use Rattle.packet_read.specs.Destination.{signsOf, isDestination}
 use Rattle.packet_write.specs.Writing.{Written, partsUnfit, signedAt, packetLength, writeOf, Fitting}
 use Rattle.packet_write.specs.declared.Fields.{Fields}
 
@@ -21,7 +21,7 @@ pub record Passed (f : Fields) (nacks destination signature payload : List ℕ) 
   pub online : bit 11 (f .flags) ≡ false
   pub fit : partsUnfit f destination signature ≡ false
   pub form : (bit 5 (f .flags) && not (isDestination destination)) ≡ false
-  pub signed : (bit 3 (f .flags) && (bit 5 (f .flags) && not (eqb (length signature) 64))) ≡ false
+  pub signed : (bit 3 (f .flags) && (bit 5 (f .flags) && not (eqb (length signature) (signsOf destination)))) ≡ false
   pub is : w ≡ record { length-is = packetLength f nacks destination signature payload; signature-at = signedAt f nacks destination when bit 3 (f .flags) else 0 }
 
 pub passed : (f : Fields) (nacks destination signature payload : List ℕ) (room : ℕ) (w : Written)
@@ -34,7 +34,7 @@ passed f nacks destination signature payload room w h =
     let c = past 6 (bit 11 (f .flags) && bit 5 (f .flags)) _ w (b .1) in
     let d = past 9 (partsUnfit f destination signature) _ w (c .1) in
     let g = past 4 (bit 5 (f .flags) && not (isDestination destination)) _ w (d .1) in
-    let i = past 9 (bit 3 (f .flags) && (bit 5 (f .flags) && not (eqb (length signature) 64))) _ w (g .1) in
+    let i = past 9 (bit 3 (f .flags) && (bit 5 (f .flags) && not (eqb (length signature) (signsOf destination)))) _ w (g .1) in
     let j = past 2 (ltb 65535 n) _ w (i .1) in
     let k = past 7 (ltb room n) _ w (j .1) in
     record {

@@ -11,20 +11,17 @@ use borrow.Author.Tests.{ltb-false, eqb-true, not-false}
 use lib.Dec.{eqb}
 use lib.ListN.{length, take, drop}
 use lib.Seq.{take-at, take-length}
-use Rattle.terms.specs.Answers.{values}
+use Rattle.terms.specs.Answers.{Saying, values}
 use Rattle.terms.specs.Ladder.{_when_else_}
 use Rattle.terms.specs.Lists.{all}
 use Rattle.wire.specs.BigEndian.{bytesOf, bytesOfEach, numberAt}
 use Rattle.wire.proofs.Laws.{length-bytes, length-each}
 use Rattle.wire.proofs.RoundTrip.{past, part-here, number-here, fits, each-numbers}
 use Rattle.packet_read.specs.Flags.{bit}
-use Rattle.packet_read.specs.Destination.{destinationIn, isDestination}
-use Rattle.packet_read.specs.Options.{destinationAt, optionsIn}
+use Rattle.packet_read.specs.Destination.{Whole, destinationIn, signsOf, isDestination}
+use Rattle.packet_read.specs.Options.{destinationAt, noDestination, optionsIn}
 use Rattle.packet_read.specs.Reading.{nackCount, fieldsRead, nacksOf}
-use Rattle.packet_read.specs.declared.DestinationFound.{DestinationFound}
-use Rattle.packet_read.specs.declared.DestinationFound.the-variants.{Whole}
 use Rattle.packet_read.specs.declared.Found.{Found}
-use Rattle.packet_read.specs.declared.Options.the-variants as O
 use Rattle.packet_read.proofs.Moved.{destination-found}
 use Rattle.packet_read.proofs.Ways.{all-found, past-delay, past-options, fields-are}
 use Rattle.packet_write.specs.Writing.{Written, unfit, partsUnfit, signedAt, packetLength, headParts, ifThere, optionParts, packetBytes, writeOf}
@@ -72,16 +69,16 @@ clear f destination signature h =
     }
 
 -- the sizes that the reader finds are those of the parts that were given
-size-found : (from is : Bool) (d : DestinationFound) (size : ℕ) → (from && not is) ≡ false → (from ≡ false → size ≡ 0) → (is ≡ true → d ≡ Whole size)
-    → Whole size ≡ (d when from else Whole 0)
-size-found true is d size h z e = sym (e (not-false is h))
-size-found false is d size h z e = ap Whole (z refl)
+size-found : (from is : Bool) (w : Saying Whole) (size s : ℕ) → (from && not is) ≡ false → (from ≡ false → size ≡ 0) → (is ≡ true → w ≡ values (record { size = size; signs = s }))
+    → values (record { size = size; signs = s when from else 0 }) ≡ (w when from else values noDestination)
+size-found true is w size s h z e = sym (e (not-false is h))
+size-found false is w size s h z e = λ i. values (record { size = z refl i; signs = 0 })
 
-signature-found : (there from : Bool) (size rest : ℕ) → (there && (from && not (eqb size 64))) ≡ false → (there ≡ false → size ≡ 0) → size ≡ rest
-    → size ≡ ((64 when from else rest) when there else 0)
-signature-found true true size rest h z e = eqb-true size 64 (not-false _ h)
-signature-found true false size rest h z e = e
-signature-found false from size rest h z e = z refl
+signature-found : (there from : Bool) (size s rest : ℕ) → (there && (from && not (eqb size s))) ≡ false → (there ≡ false → size ≡ 0) → size ≡ rest
+    → size ≡ (((s when from else 0) when from else rest) when there else 0)
+signature-found true true size s rest h z e = eqb-true size s (not-false _ h)
+signature-found true false size s rest h z e = e
+signature-found false from size s rest h z e = z refl
 
 -- every field before the options, and what stands behind them
 record Head (f : Fields) (nacks : List ℕ) (options : ℕ) (r p : List ℕ) : Type 0 where
@@ -162,8 +159,8 @@ foundBack f nacks destination signature = record {
 module _ (f : Fields) (nacks destination signature payload p : List ℕ) (head : Head f nacks (optionsLength f destination signature) (behind (optionParts f destination signature) payload) p)
     (tail : Tail f destination signature payload (22 + 4 * length nacks) p) (none : Clear f destination signature) where
   options-back : bit 11 (f .flags) ≡ false → (bit 5 (f .flags) && not (isDestination destination)) ≡ false
-      → (bit 3 (f .flags) && (bit 5 (f .flags) && not (eqb (length signature) 64))) ≡ false
-      → O.Found (foundBack f nacks destination signature)
+      → (bit 3 (f .flags) && (bit 5 (f .flags) && not (eqb (length signature) (signsOf destination)))) ≡ false
+      → values (foundBack f nacks destination signature)
       ≡ optionsIn p (22 + 4 * length nacks) (22 + 4 * length nacks + optionsLength f destination signature) (f .flags)
   options-back online form signed =
       let at = 22 + 4 * length nacks in
@@ -172,14 +169,15 @@ module _ (f : Fields) (nacks destination signature payload p : List ℕ) (head :
       let from = destinationAt at (f .flags) in
       let place = signedAt f nacks destination in
       let long = length-options f destination signature in
-      let d = size-found (bit 5 (f .flags)) (isDestination destination) (destinationIn p from end) (length destination) form (none .no-destination)
+      let whole : Whole = record { size = length destination; signs = signsOf destination when bit 5 (f .flags) else 0 } in
+      let d = size-found (bit 5 (f .flags)) (isDestination destination) (destinationIn p from end) (length destination) (signsOf destination) form (none .no-destination)
       (λ t. destination-found p destination (ifThere (bit 7 (f .flags)) (f .«max_size») ++ (signature ++ payload)) from end (tail .destination-here) t (omega (arith, long))) in
-      let s : length signature ≡ ((64 when bit 5 (f .flags) else (end - place)) when bit 3 (f .flags) else 0) =
-      signature-found (bit 3 (f .flags)) (bit 5 (f .flags)) (length signature) (end - place) signed (none .no-signature) (omega (arith, long)) in
+      let s : length signature ≡ (((signsOf destination when bit 5 (f .flags) else 0) when bit 5 (f .flags) else (end - place)) when bit 3 (f .flags) else 0) =
+      signature-found (bit 3 (f .flags)) (bit 5 (f .flags)) (length signature) (signsOf destination) (end - place) signed (none .no-signature) (omega (arith, long)) in
       let l : end - place - length signature ≡ 0 = omega (arith, long) in
-      let found = all-found p at end (f .flags) (length destination) place (omega arith) (omega (arith, long)) online (length signature) s (omega (arith, long))
+      let found = all-found p at end (f .flags) whole place (omega arith) (omega (arith, long)) online (length signature) s (omega (arith, long))
       from (f .delay) (f .«max_size») refl (sym (tail .delay-is)) (sym (tail .max-is)) in
-      rw l at found ∙ past-delay p at end (f .flags) from refl (omega (arith, long)) (Whole (length destination)) (bit 5 (f .flags)) refl d
+      rw l at found ∙ past-delay p at end (f .flags) from refl (omega (arith, long)) (values whole) (bit 5 (f .flags)) refl d
 
   fields-given : optionsLength f destination signature ≡ (2 when bit 6 (f .flags) else 0) + length destination + (2 when bit 7 (f .flags) else 0) + length signature
       → length p ≡ 22 + 4 * length nacks + optionsLength f destination signature + length payload
@@ -211,7 +209,7 @@ reads-back f nacks destination signature payload room w ranged fit h =
     let en = sym (head .count-is) in
     let eo = sym (head .options-are) in
     let ef = sym (head .flags-are) in
-    let read = past-options p short (omega (arith, whole)) n en (omega (arith, whole)) o eo (omega (arith, whole)) (f .flags) ef (O.Found found) options in
+    let read = past-options p short (omega (arith, whole)) n en (omega (arith, whole)) o eo (omega (arith, whole)) (f .flags) ef (values found) options in
     let fields = fields-are p short (omega (arith, whole)) n en (omega (arith, whole)) o eo (f .flags) ef found in
     let back = fields-given f nacks destination signature payload p head tail none long whole in
     let answer = sym read ∙ ap values (sym fields ∙ back) in

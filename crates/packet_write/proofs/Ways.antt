@@ -9,7 +9,7 @@ use lib.ListN.{length}
 use Rattle.terms.specs.Answers.{Saying, refusal}
 use Rattle.terms.specs.Ladder.{_when_else_}
 use Rattle.packet_read.specs.Flags.{bit}
-use Rattle.packet_read.specs.Destination.{isDestination}
+use Rattle.packet_read.specs.Destination.{signsOf, isDestination}
 use Rattle.packet_read.specs.Options.{signatureAt}
 use Rattle.packet_write.specs.Writing.{Written, written, partsUnfit, packetLength, signedAt, writeOf}
 use Rattle.packet_write.specs.declared.Fields.{Fields}
@@ -65,11 +65,11 @@ module _ (f : Fields) (nacks destination signature payload : List ℕ) (room : �
         another-form d = simp (le-ltb 255 (length nacks) few, off, u, d)
 
         module _ (d : (bit 5 (f .flags) && not (isDestination destination)) ≡ false) where
-          pub another-length : (bit 3 (f .flags) && (bit 5 (f .flags) && not (eqb (length signature) 64))) ≡ true → refusal 9 ≡ writeOf f nacks destination signature payload room
+          pub another-length : (bit 3 (f .flags) && (bit 5 (f .flags) && not (eqb (length signature) (signsOf destination)))) ≡ true → refusal 9 ≡ writeOf f nacks destination signature payload room
           unfolding writeOf
           another-length l = simp (le-ltb 255 (length nacks) few, off, u, d, l)
 
-          pub by-length : (bit 3 (f .flags) && (bit 5 (f .flags) && not (eqb (length signature) 64))) ≡ false
+          pub by-length : (bit 3 (f .flags) && (bit 5 (f .flags) && not (eqb (length signature) (signsOf destination)))) ≡ false
               → byLength (f .flags) (packetLength f nacks destination signature payload) (signedAt f nacks destination) room ≡ writeOf f nacks destination signature payload room
           unfolding writeOf
           by-length l = sym (simp (le-ltb 255 (length nacks) few, off, u, d, l))

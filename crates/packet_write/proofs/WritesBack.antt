@@ -12,17 +12,15 @@ use borrow.Author.Tests.{le-ltb, eq-eqb}
 use lib.Dec.{eqb}
 use lib.ListN.{length, take, drop, length-drop, take-append-drop}
 use lib.Seq.{take-all, drop-drop, length-take-le}
-use Rattle.terms.specs.Answers.{values}
+use Rattle.terms.specs.Answers.{Saying, values}
 use Rattle.terms.specs.Ladder.{_when_else_}
 use Rattle.terms.specs.Lists.{all}
 use Rattle.wire.specs.BigEndian.{isByte, bytesOf, bytesOfEach, numberAt, numbersAt}
 use Rattle.wire.proofs.RoundTrip.{number-small, peel, peel-each, length-numbers}
 use Rattle.packet_read.specs.Flags.{bit}
-use Rattle.packet_read.specs.Destination.{destinationIn, isDestination}
-use Rattle.packet_read.specs.Options.{destinationAt, maxAt, signatureAt, signatureSize, found}
+use Rattle.packet_read.specs.Destination.{Whole, destinationIn, signsOf, isDestination}
+use Rattle.packet_read.specs.Options.{destinationAt, maxAt, signatureAt, noDestination, signatureSize, found}
 use Rattle.packet_read.specs.Reading.{nackCount, flagsOf, optionsAt, optionsEnd, fieldsRead, readOf, fieldsIn, fieldsOf, spanned}
-use Rattle.packet_read.specs.declared.DestinationFound.{DestinationFound}
-use Rattle.packet_read.specs.declared.DestinationFound.the-variants.{Whole}
 use Rattle.packet_read.specs.declared.Packet.{Packet}
 use Rattle.packet_read.proofs.Form.{size-inside}
 use Rattle.packet_read.proofs.Moved.{destination-alone}
@@ -59,11 +57,14 @@ number-clear : (there : Bool) (x : ℕ) → there ≡ false → (x when there el
 number-clear there x e = rw e
 
 -- a destination of this size was found, or there was none
-when-from : (from : Bool) (d : DestinationFound) (size : ℕ) → (d when from else Whole 0) ≡ Whole size → from ≡ true → d ≡ Whole size
-when-from from d size h e = rw e at h
+when-from : (from : Bool) (w : Saying Whole) (d : Whole) → (w when from else values noDestination) ≡ values d → from ≡ true → w ≡ values d
+when-from from w d h e = rw e at h
 
-when-absent : (from : Bool) (d : DestinationFound) (size : ℕ) → (d when from else Whole 0) ≡ Whole size → from ≡ false → size ≡ 0
-when-absent from d size h e = let z : Whole 0 ≡ Whole size = rw e at h in cc z
+when-absent : (from : Bool) (w : Saying Whole) (d : Whole) → (w when from else values noDestination) ≡ values d → from ≡ false → d .size ≡ 0
+when-absent from w d h e =
+    let z : values noDestination ≡ values d = rw e at h in
+    let n : noDestination ≡ d = cc z in
+    sym (ap (λ (x : Whole). x .size) n)
 
 none-unfit : (there : Bool) (x : ℕ) → (there ≡ false → x ≡ 0) → unfit there x ≡ false
 none-unfit true x h = refl
@@ -76,10 +77,10 @@ form-of : (from is : Bool) → (from ≡ true → is ≡ true) → (from && not 
 form-of true is h = rw (h refl)
 form-of false is h = refl
 
-signed-of : (there from : Bool) (size rest : ℕ) → size ≡ ((64 when from else rest) when there else 0) → (there && (from && not (eqb size 64))) ≡ false
-signed-of true true size rest e = rw (eq-eqb size 64 e)
-signed-of true false size rest e = refl
-signed-of false from size rest e = refl
+signed-of : (there from : Bool) (size signs s rest : ℕ) → size ≡ ((s when from else rest) when there else 0) → (from ≡ true → signs ≡ s) → (there && (from && not (eqb size signs))) ≡ false
+signed-of true true size signs s rest e f = rw (eq-eqb size signs (e ∙ sym (f refl)))
+signed-of true false size signs s rest e f = refl
+signed-of false from size signs s rest e f = refl
 
 -- a packet that is read with the fields v
 module _ (p : List ℕ) (v : Packet) (bytes : all isByte p ≡ true) (r : Readable p v) where
@@ -99,13 +100,13 @@ module _ (p : List ℕ) (v : Packet) (bytes : all isByte p ≡ true) (r : Readab
   from = destinationAt at flags
 
   abbrev place : ℕ
-  place = signatureAt at flags (r .size)
+  place = signatureAt at flags (r .d .size)
 
   abbrev signed : ℕ
-  signed = signatureSize p at end flags (r .size)
+  signed = signatureSize p at end flags (r .d)
 
   abbrev read : Packet
-  read = fieldsRead p n end flags (found p at end flags (r .size))
+  read = fieldsRead p n end flags (found p at end flags (r .d))
 
   abbrev fields : Fields
   fields = fieldsAgain read
@@ -122,11 +123,11 @@ module _ (p : List ℕ) (v : Packet) (bytes : all isByte p ≡ true) (r : Readab
   abbrev payload : List ℕ
   payload = spanned p (read .payload)
 
-  destination-inside : from + r .size ≤ end
-  destination-inside = size-inside p from end (r .size) (bit 5 flags) (r .held .delay-fits) (r .held .sized)
+  destination-inside : from + r .d .size ≤ end
+  destination-inside = size-inside p from end (r .d) (bit 5 flags) (r .held .delay-fits) (r .held .there)
 
-  destination-long : length destination ≡ r .size
-  destination-long = length-part p from (r .size) (omega (arith, destination-inside, r .options-fit))
+  destination-long : length destination ≡ r .d .size
+  destination-long = length-part p from (r .d .size) (omega (arith, destination-inside, r .options-fit))
 
   signature-long : length signature ≡ signed
   signature-long = length-part p place signed (omega (arith, r .held .signature-fits, r .options-fit))
@@ -140,8 +141,8 @@ module _ (p : List ℕ) (v : Packet) (bytes : all isByte p ≡ true) (r : Readab
         in-front (ifThere (bit 6 flags) (fields .delay))
         (in-front destination
         (in-front (ifThere (bit 7 flags) (fields .«max_size»)) (in-front signature payload-is (peel-part p place signed end whole))
-        (peel-option p bytes (bit 7 flags) (from + r .size) (omega (arith, r .held .max-fits, r .options-fit))))
-        (peel-part p from (r .size) (from + r .size) refl))
+        (peel-option p bytes (bit 7 flags) (from + r .d .size) (omega (arith, r .held .max-fits, r .options-fit))))
+        (peel-part p from (r .d .size) (from + r .d .size) refl))
         (peel-option p bytes (bit 6 flags) at (omega (arith, r .held .delay-fits, r .options-fit)))
 
     options-long : optionsLength fields destination signature ≡ numberAt 2 (20 + 4 * n) p
@@ -175,18 +176,21 @@ module _ (p : List ℕ) (v : Packet) (bytes : all isByte p ≡ true) (r : Readab
     fit-again : partsUnfit fields destination signature ≡ false
     fit-again =
         or-of _ _ (none-unfit (bit 6 flags) (fields .delay) (number-clear (bit 6 flags) (numberAt 2 at p)))
-        (or-of _ _ (none-unfit (bit 5 flags) (length destination) (λ e. destination-long ∙ when-absent (bit 5 flags) (destinationIn p from end) (r .size) (r .held .sized) e))
-        (or-of _ _ (none-unfit (bit 7 flags) (fields .«max_size») (number-clear (bit 7 flags) (numberAt 2 (maxAt at flags (r .size)) p)))
-        (none-unfit (bit 3 flags) (length signature) (λ e. signature-long ∙ number-clear (bit 3 flags) (64 when bit 5 flags else (end - place)) e))))
+        (or-of _ _ (none-unfit (bit 5 flags) (length destination) (λ e. destination-long ∙ when-absent (bit 5 flags) (destinationIn p from end) (r .d) (r .held .there) e))
+        (or-of _ _ (none-unfit (bit 7 flags) (fields .«max_size») (number-clear (bit 7 flags) (numberAt 2 (maxAt at flags (r .d .size)) p)))
+        (none-unfit (bit 3 flags) (length signature) (λ e. signature-long ∙ number-clear (bit 3 flags) (r .d .signs when bit 5 flags else (end - place)) e))))
+
+    -- where there is a destination, it is one by itself
+    alone : bit 5 flags ≡ true → (signsOf destination ≡ r .d .signs) × (isDestination destination ≡ true)
+    alone e =
+        destination-alone p destination (drop (r .d .size) (drop from p)) from end (sym (take-append-drop (r .d .size) (drop from p))) (r .d .signs)
+        (when-from (bit 5 flags) (destinationIn p from end) (r .d) (r .held .there) e ∙ λ i. values (record { size = sym destination-long i; signs = r .d .signs }))
 
     form-again : (bit 5 flags && not (isDestination destination)) ≡ false
-    form-again =
-        form-of (bit 5 flags) (isDestination destination) λ e.
-        destination-alone p destination (drop (r .size) (drop from p)) from end (sym (take-append-drop (r .size) (drop from p)))
-        (when-from (bit 5 flags) (destinationIn p from end) (r .size) (r .held .sized) e ∙ ap Whole (sym destination-long))
+    form-again = form-of (bit 5 flags) (isDestination destination) (λ e. alone e .1)
 
-    signed-again : (bit 3 flags && (bit 5 flags && not (eqb (length signature) 64))) ≡ false
-    signed-again = signed-of (bit 3 flags) (bit 5 flags) (length signature) (end - place) signature-long
+    signed-again : (bit 3 flags && (bit 5 flags && not (eqb (length signature) (signsOf destination)))) ≡ false
+    signed-again = signed-of (bit 3 flags) (bit 5 flags) (length signature) (signsOf destination) (r .d .signs) (end - place) signature-long (λ e. alone e .0)
 
     accepted-again : (room : ℕ) → length p ≤ room → writeOf fields nacks destination signature payload room ≡ written (length p) (place when bit 3 flags else 0)
     accepted-again room h =

@@ -10,7 +10,7 @@ use Rattle.terms.specs.Lists.{_atFrontOf_, joined}
 use Rattle.terms.specs.Refusals.{numberOf}
 use Rattle.wire.specs.BigEndian.{bytesOf, bytesOfEach}
 use Rattle.packet_read.specs.Flags.{bit}
-use Rattle.packet_read.specs.Destination.{isDestination}
+use Rattle.packet_read.specs.Destination.{signsOf, isDestination}
 use Rattle.packet_read.specs.Options.{signatureAt}
 use Rattle.packet_write.specs.declared.Fields.{Fields}
 use Rattle.packet_write.specs.declared.Writing.{Writing}
@@ -63,8 +63,8 @@ module _ (f : Fields) (nacks destination signature payload : List ℕ) where
       refusal 9 when partsUnfit f destination signature else
       -- bit 5 wants exactly one destination
       refusal 4 when bit 5 (f .flags) && not (isDestination destination) else
-      -- bit 3 with bit 5 wants 64 bytes
-      refusal 9 when bit 3 (f .flags) && (bit 5 (f .flags) && not (eqb (length signature) 64)) else
+      -- bit 3 with bit 5 wants as many bytes as the destination's signatures have
+      refusal 9 when bit 3 (f .flags) && (bit 5 (f .flags) && not (eqb (length signature) (signsOf destination))) else
       -- packet to be written longer than 65,535
       refusal 2 when ltb 65535 packetLength else
       -- output shorter than needed

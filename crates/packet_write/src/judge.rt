@@ -43,12 +43,12 @@ fn other_form(from: bool, destination: &[u8]) -> bool
     if !from {
         return false;
     }
-    !packet_read::is_destination(destination)
+    packet_read::signature_length(destination) == 0
 }
 
-// A signature that is there beside a destination and has another length than 64.
-fn other_length(signed: bool, from: bool, signature: usize) -> bool
-    ensures { λ r. ⌜ r ≡ (signed && (from && not (eqb signature 64))) ⌝ }
+// A signature that is there beside a destination and has another length than that one's signatures.
+fn other_length(signed: bool, from: bool, signature: usize, signs: usize) -> bool
+    ensures { λ r. ⌜ r ≡ (signed && (from && not (eqb signature signs))) ⌝ }
 {
     if !signed {
         return false;
@@ -56,7 +56,7 @@ fn other_length(signed: bool, from: bool, signature: usize) -> bool
     if !from {
         return false;
     }
-    signature != 64
+    signature != signs
 }
 
 // How many option bytes stand before the signature.
@@ -140,7 +140,8 @@ pub(super) fn judge(
     if other_form(from, destination) {
         return Writing::Refused(Refusal::DestinationForm);
     }
-    if other_length(flags::has(flags, flags::SIGNATURE), from, signature.len()) {
+    let signs = packet_read::signature_length(destination);
+    if other_length(flags::has(flags, flags::SIGNATURE), from, signature.len(), signs) {
         return Writing::Refused(Refusal::PartsUnfit);
     }
     sizes(

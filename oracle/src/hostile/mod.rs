@@ -37,7 +37,7 @@ impl Case for Run {
             // The registers as they are at first: only the first case can ask.
             _ if index == 0 => draft.untouched(),
             0 => draft.read(),
-            1 => draft.is_destination(),
+            1 => draft.judge_destination(),
             2 | 3 => draft.write(),
             4 => draft.timer(),
             5..=8 => draft.receiver(),

@@ -24,9 +24,10 @@ impl Draft {
         self.ask(Call::Read(packet));
     }
 
-    /// A destination with at most one thing wrong: another length, type, L or key type.
-    fn destination(&mut self) -> Vec<u8> {
-        let mut bytes = samples::destination(&mut self.random);
+    /// A destination of any listed type with at most one thing wrong, another length, type, L or key type; and how long its signatures
+    /// were before.
+    fn destination(&mut self) -> (Vec<u8>, usize) {
+        let (mut bytes, signs) = samples::destination(&mut self.random);
         let random = &mut self.random;
         match random.below(12) {
             0 => bytes.truncate(random.below(bytes.len())),
@@ -40,16 +41,20 @@ impl Draft {
                 bytes[386] = length as u8;
                 bytes.truncate(387 + length);
             }
-            6 => bytes[387] = random.byte(),
-            7 => bytes[388] = random.byte(),
+            // The key type, where there is one; or another byte of it.
+            6 if bytes.len() > 388 => bytes[388] = random.below(14) as u8,
+            7 => {
+                let last = bytes.len() - 1;
+                bytes[388.min(last)] = random.byte();
+            }
             _ => {}
         }
-        bytes
+        (bytes, signs)
     }
 
-    pub fn is_destination(&mut self) {
-        let bytes = self.destination();
-        self.ask(Call::IsDestination(bytes));
+    pub fn judge_destination(&mut self) {
+        let (bytes, _) = self.destination();
+        self.ask(Call::Destination(bytes));
     }
 
     /// Fields that fit their flags, but for a thing or two.
@@ -63,6 +68,7 @@ impl Draft {
             _ => self.random.below(5),
         };
         let given = |draft: &mut Self, bit: u16| flags & bit != 0 || draft.random.one_in(16);
+        let (destination, signs) = self.destination();
         let fields = Fields {
             send: self.random.word(),
             recv: self.random.word(),
@@ -72,9 +78,9 @@ impl Draft {
             resend: self.random.byte(),
             flags,
             delay: if given(self, DELAY) { self.random.word() as u16 } else { 0 },
-            destination: if given(self, FROM) { self.destination() } else { vec![] },
+            destination: if given(self, FROM) { destination } else { vec![] },
             max: if given(self, MAX_SIZE) { self.random.word() as u16 } else { 0 },
-            signature: if given(self, SIGNATURE) { self.signature() } else { vec![] },
+            signature: if given(self, SIGNATURE) { self.signature(signs) } else { vec![] },
             payload: vec![],
         };
         let payload = match self.random.below(if flags & OFFLINE != 0 { 8 } else { 40 }) {
@@ -87,8 +93,9 @@ impl Draft {
         self.ask(Call::Write { fields, output });
     }
 
-    fn signature(&mut self) -> Vec<u8> {
-        let length = [0, 63, 65, self.random.below(100), 64, 64, 64, 64][self.random.below(8)];
+    /// A signature of `signs` bytes, or of another length.
+    fn signature(&mut self, signs: usize) -> Vec<u8> {
+        let length = [0, signs - 1, signs + 1, self.random.below(140), 64, signs, signs, signs][self.random.below(8)];
         self.random.bytes(length)
     }
 

@@ -16,7 +16,7 @@ use std::{cell::RefCell, collections::BTreeMap};
 /// Every number that a call can give, in document 01's order. Of `destination` and `valid` these are the answers.
 const CALLS: [(&str, &[u64]); 14] = [
     ("read", &[2, 1, 3, 4, 5, 6, 0]),
-    ("destination", &[0, 1]),
+    ("destination", &[0, 40, 64, 96, 132]),
     ("write", &[8, 5, 6, 9, 4, 9, 2, 7, 0]),
     ("start", &[10, 12, 0]),
     ("accept", &[11, 10, 12, 13, 14, 15, 16, 0]),

@@ -1,7 +1,7 @@
 //! The line for each call (docs/DRIVE.md), and the registers that are kept from call to call.
 use super::{
     ack::acknowledge,
-    packet::{self, is_destination},
+    packet::{self, signature_length},
     receiver::{self, Receiver},
     sender::{self, Place, Sender},
     sending, timer,
@@ -43,7 +43,7 @@ impl World {
     pub fn answer(&mut self, call: &Call) -> Line {
         match call {
             Call::Read(packet) => read(packet),
-            Call::IsDestination(bytes) => plain(format!("destination {}", u8::from(is_destination(bytes)))),
+            Call::Destination(bytes) => plain(format!("destination {}", signature_length(bytes))),
             Call::Write { fields, output } => {
                 let mut output = output.bytes();
                 let result = write(fields, &mut output);

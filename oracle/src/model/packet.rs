@@ -1,4 +1,4 @@
-//! Document 01, "Packet on the wire": reading.
+//! Document 01, "Packet on the wire": reading; destinations as document 02, request [4], has them.
 use super::{refuse, Refusal};
 use std::ops::Range;
 
@@ -43,12 +43,12 @@ pub fn read(packet: &[u8]) -> Result<Packet, Refusal> {
     let has = |bit: u16| flags & bit != 0;
     let mut options = Options { packet, at: 22 + 4 * n, end: 22 + 4 * n + o };
     let delay = if has(DELAY) { number(&packet[options.next(2)?]) } else { 0 };
-    let destination = if has(FROM) { options.destination()? } else { options.next(0)? };
+    let (destination, signs) = if has(FROM) { options.destination()? } else { (options.next(0)?, 0) };
     let max = if has(MAX_SIZE) { number(&packet[options.next(2)?]) } else { 0 };
     refuse("read", &[(5, has(OFFLINE) && !has(FROM)), (6, has(OFFLINE) && has(FROM))])?;
     let signature = match (has(SIGNATURE), has(FROM)) {
         (false, _) => options.next(0)?,
-        (true, true) => options.next(64)?,
+        (true, true) => options.next(signs)?,
         // Without a destination: all that remain, none included.
         (true, false) => options.next(options.end - options.at)?,
     };
@@ -83,21 +83,41 @@ impl Options<'_> {
         Ok(self.at - count..self.at)
     }
 
-    /// 3 under 387 bytes, 4 for type or L, 3 for its end, 4 for the key type.
-    fn destination(&mut self) -> Result<Range<usize>, Refusal> {
+    /// 3 under 387 bytes, 4 for type or L, 3 for its end, 4 for the key type. Beside it the length of its signatures.
+    fn destination(&mut self) -> Result<(Range<usize>, usize), Refusal> {
         let rest = &self.packet[self.at..self.end];
         refuse("read", &[(3, rest.len() < 387)])?;
         let certificate = number(&rest[385..387]) as usize;
-        refuse("read", &[(4, rest[384] != 5 || certificate < 4), (3, rest.len() < 387 + certificate)])?;
-        refuse("read", &[(4, number(&rest[387..389]) != 7)])?;
-        self.next(387 + certificate)
+        let taken = match rest[384] {
+            0 => certificate == 0,
+            5 => certificate >= 4,
+            _ => false,
+        };
+        refuse("read", &[(4, !taken), (3, rest.len() < 387 + certificate)])?;
+        let kind = if rest[384] == 0 { 0 } else { number(&rest[387..389]) };
+        let (signs, _) = lengths(kind).unwrap_or((0, 0));
+        refuse("read", &[(4, signs == 0 || kind == 3 && certificate < 8)])?;
+        Ok((self.next(387 + certificate)?, signs))
     }
 }
 
-/// Whether these bytes are one destination of the form that this edition takes, and nothing more.
-pub fn is_destination(bytes: &[u8]) -> bool {
-    bytes.len() >= 391
-        && bytes[384] == 5
-        && number(&bytes[385..387]) as usize == bytes.len() - 387
-        && number(&bytes[387..389]) == 7
+/// The fixed list of signing types: how long a signature and a key are, where the type is listed.
+pub fn lengths(kind: u32) -> Option<(usize, usize)> {
+    Some(match kind {
+        0 => (40, 128),
+        1 => (64, 64),
+        2 => (96, 96),
+        3 => (132, 132),
+        7 | 11 => (64, 32),
+        _ => return None,
+    })
+}
+
+/// How long the signatures of these bytes are, where they are one destination and nothing more; else 0.
+pub fn signature_length(bytes: &[u8]) -> usize {
+    let mut options = Options { packet: bytes, at: 0, end: bytes.len() };
+    match options.destination() {
+        Ok((whole, signs)) if whole.len() == bytes.len() => signs,
+        _ => 0,
+    }
 }

@@ -63,7 +63,7 @@ impl Rest<'_> {
     fn call(&mut self) -> Option<Call> {
         Some(match self.u8()? {
             b'r' => Call::Read(self.bytes(70_000)?),
-            b'd' => Call::IsDestination(self.bytes(70_000)?),
+            b'd' => Call::Destination(self.bytes(70_000)?),
             b'w' => Call::Write { fields: self.fields()?, output: self.output()? },
             b'x' => {
                 let (sampled, timing) = (self.u8()? != 0, (self.u32()?, self.u32()?));

@@ -1,6 +1,6 @@
 //! Document 01, "Packet on the wire": writing.
 use super::{
-    packet::{is_destination, DELAY, FROM, MAX_SIZE, OFFLINE, SIGNATURE},
+    packet::{signature_length, DELAY, FROM, MAX_SIZE, OFFLINE, SIGNATURE},
     refuse, Refusal,
 };
 
@@ -74,6 +74,7 @@ impl Fields {
 pub fn write(fields: &Fields, output: &mut [u8]) -> Result<(usize, usize), Refusal> {
     let (packet, signature_at) = fields.packet();
     let has = |bit: u16| fields.has(bit);
+    let signs = signature_length(&fields.destination);
     refuse(
         "write",
         &[
@@ -81,8 +82,8 @@ pub fn write(fields: &Fields, output: &mut [u8]) -> Result<(usize, usize), Refus
             (5, has(OFFLINE) && !has(FROM)),
             (6, has(OFFLINE) && has(FROM)),
             (9, fields.given_for_a_clear_bit()),
-            (4, has(FROM) && !is_destination(&fields.destination)),
-            (9, has(SIGNATURE) && has(FROM) && fields.signature.len() != 64),
+            (4, has(FROM) && signs == 0),
+            (9, has(SIGNATURE) && has(FROM) && fields.signature.len() != signs),
             (2, packet.len() > 65_535),
             (7, packet.len() > output.len()),
         ],

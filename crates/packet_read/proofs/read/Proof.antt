@@ -2,6 +2,9 @@
 use mathlib.Core.Path.{_≡_, sym, _∙_, ap}
 use denote.Ref.{now}
 use Rattle.terms.specs.Answers.{values}
+use Rattle.packet_read.specs.Going.{_andThen_}
+use Rattle.packet_read.specs.Options.{saidOptions}
+use Rattle.packet_read.specs.declared.Options.{Options}
 use Rattle.packet_read.specs.Reading.{withOptions, readOf}
 use Rattle.packet_read.proofs.Ways.{too-long, no-header, no-nacks, no-options, past-options, fields-are}
 use borrow.Author.Needs.{needs}
@@ -9,7 +12,7 @@ use Rattle.packet_read.proofs.read.Statement.{statement}
 use Rattle.packet_read.proofs.read.Tie as tie
 
 past : (c : tie.After-options) → let p = now (c .before .before .before .before .before .before .before .before .before .args .packet) in
-    withOptions p (c .options .result) ≡ readOf p
+    (saidOptions (c .options .result) andThen withOptions p) ≡ readOf p
 past c =
     let e = c .before .before in
     let o = e .before in
@@ -84,7 +87,8 @@ fields-requires c κs = search needs
 returns-5 : tie.Need-returns-5
 returns-5 c =
     let o = c .before .before .before in
-    sym (ap (withOptions _) (c .before .r .given .1)) ∙ past o
+    let p = now (o .before .before .before .before .before .before .before .before .before .args .packet) in
+    sym (ap (λ (r : Options). saidOptions r andThen withOptions p) (c .before .r .given .1)) ∙ past o
 
 returns-6 : tie.Need-returns-6
 returns-6 c =
@@ -92,8 +96,9 @@ returns-6 c =
     let e = o .before .before in
     let b = e .before in
     let n = b .before .before in
+    let p = now (n .before .before .before .before .args .packet) in
     ap values (c .fields .ensures ∙ fields-are _ (n .before .before .if1 .left) (n .before .if2 .left) _ (n .be8 .ensures) (b .before .if3 .left) _ (b .be16 .ensures) _ (o .before .be162 .ensures) _)
-    ∙ sym (ap (withOptions _) (c .before .before .f .given .1))
+    ∙ sym (ap (λ (r : Options). saidOptions r andThen withOptions p) (c .before .before .f .given .1))
     ∙ past o
 
 pub read-spec : {M : Type 1} → statement M

@@ -16,7 +16,7 @@ place : (c : tie.After-size-if) → let a = c .before .before .before .args in
 place c = let a = c .before .before .before .args in signature-place (a .at) (a .flags) (a .size) (a .destination-at) _ _ (c .before .before .before .pre .0) (c .before .has .ensures) (c .size-if .ensures .0)
 
 size : (c : tie.After-signature-size) → let s = c .before .before .before .before .before .before in let a = s .before .before .before .args in
-    c .signature-size .result ≡ ((64 when bit 5 (a .flags) else (a .end - (a .destination-at + a .size + s .size-if .result))) when bit 3 (a .flags) else 0)
+    c .signature-size .result ≡ ((a .signs when bit 5 (a .flags) else (a .end - (a .destination-at + a .size + s .size-if .result))) when bit 3 (a .flags) else 0)
 size c = c .signature-size .ensures ∙ rw (c .before .has4 .ensures, c .before .before .before .before .has2 .ensures)
 
 add-max-at : tie.Need-add-max-at

@@ -2,7 +2,10 @@
 use Prim.Native.Nat.{_+_}
 use mathlib.Core.Path.{_≡_, sym, _∙_, ap}
 use denote.Ref.{now}
-use Rattle.packet_read.specs.Options.{destinationAt, following, optionsIn}
+use Rattle.packet_read.specs.Going.{_andThen_}
+use Rattle.packet_read.specs.Options.{destinationAt, afterDestination, optionsIn}
+use Rattle.packet_read.specs.Destination.{saidDestination}
+use Rattle.packet_read.specs.declared.DestinationFound.{DestinationFound}
 use Rattle.packet_read.proofs.Form.{size-inside}
 use Rattle.packet_read.proofs.Ways.{cut-delay, past-delay}
 use borrow.Author.Needs.{needs}
@@ -14,12 +17,12 @@ place : (c : tie.After-size-if) → let a = c .before .before .before .args in a
 place c = rw (c .size-if .ensures .0, c .before .has .ensures)
 
 -- past the delay, the options are what follows the destination that was found
-past : (c : tie.After-destination-size) → let a = c .before .before .before .before .before .before .args in
-    following (now (a .packet)) (a .at) (a .end) (a .flags) (c .destination-size .result) ≡ optionsIn (now (a .packet)) (a .at) (a .end) (a .flags)
+past : (c : tie.After-destination-there) → let a = c .before .before .before .before .before .before .args in
+    (saidDestination (c .destination-there .result) andThen afterDestination (now (a .packet)) (a .at) (a .end) (a .flags)) ≡ optionsIn (now (a .packet)) (a .at) (a .end) (a .flags)
 past c =
     let e = c .before .before in
     let a = e .before .before .before .before .args in
-    past-delay (now (a .packet)) (a .at) (a .end) (a .flags) _ (place (e .before)) (e .if1 .left) _ (c .before .has2 .result) (c .before .has2 .ensures) (c .destination-size .ensures)
+    past-delay (now (a .packet)) (a .at) (a .end) (a .flags) _ (place (e .before)) (e .if1 .left) _ (c .before .has2 .result) (c .before .has2 .ensures) (c .destination-there .ensures)
 
 has-requires : tie.Need-has-requires
 has-requires c κs = search needs
@@ -36,8 +39,8 @@ returns c = cut-delay _ _ _ _ _ (place (c .before)) (c .if1 .taken)
 has-requires-2 : tie.Need-has-requires-2
 has-requires-2 c κs = search needs
 
-destination-size-requires : tie.Need-destination-size-requires
-destination-size-requires c κs = search needs
+destination-there-requires : tie.Need-destination-there-requires
+destination-there-requires c κs = search needs
 
 enum-known-r : tie.Need-enum-known-r
 enum-known-r c = search needs
@@ -51,7 +54,7 @@ after-destination-requires c κs =
     let e = d .before .before in
     let a = e .before .before .before .before .args in (
       place (e .before),
-      size-inside (now (a .packet)) _ _ _ (d .before .has2 .result) (e .if1 .left) (sym (d .destination-size .ensures) ∙ c .before .size .given .1),
+      size-inside (now (a .packet)) _ _ _ (d .before .has2 .result) (e .if1 .left) (sym (d .destination-there .ensures) ∙ ap saidDestination (c .before .size .given .1)),
       e .before .before .before .before .pre .1,
     )
 
@@ -59,13 +62,15 @@ returns-2 : tie.Need-returns-2
 returns-2 c =
     let d = c .before .before .before in
     let a = d .before .before .before .before .before .before .args in
-    sym (ap (following (now (a .packet)) (a .at) (a .end) (a .flags)) (c .before .r .given .1)) ∙ past d
+    sym (ap (λ (f : DestinationFound). saidDestination f andThen afterDestination (now (a .packet)) (a .at) (a .end) (a .flags)) (c .before .r .given .1)) ∙ past d
 
 returns-3 : tie.Need-returns-3
 returns-3 c =
     let d = c .before .before .before .before in
     let a = d .before .before .before .before .before .before .args in
-    c .after-destination .ensures ∙ sym (ap (following (now (a .packet)) (a .at) (a .end) (a .flags)) (c .before .before .size .given .1)) ∙ past d
+    c .after-destination .ensures
+    ∙ sym (ap (λ (f : DestinationFound). saidDestination f andThen afterDestination (now (a .packet)) (a .at) (a .end) (a .flags)) (c .before .before .size .given .1))
+    ∙ past d
 
 pub options-spec : {M : Type 1} → statement M
 options-spec =
@@ -76,7 +81,7 @@ options-spec =
     add-destination-at
     returns
     has-requires-2
-    destination-size-requires
+    destination-there-requires
     enum-known-r
     enum-known-size
     after-destination-requires

@@ -3,7 +3,7 @@ use Prim.Native.Nat.{_≤_}
 use mathlib.Core.Path.{_≡_, sym, _∙_}
 use mathlib.Core.Bool.{false, _&&_, not}
 use lib.Dec.{eqb}
-use Rattle.packet_read.specs.Destination.{isDestination}
+use Rattle.packet_read.specs.Destination.{signsOf, isDestination}
 use denote.Ref.{now}
 use lib.ListN.{length}
 use Rattle.packet_read.specs.Flags.{bit}
@@ -30,9 +30,11 @@ form c = c .other-form .ensures ∙ rw (c .before .before .before .before .befor
 returns : tie.Need-returns
 returns c = many _ _ _ _ _ _ (c .if1 .taken)
 
-long : (c : tie.After-other-length) → let a = c .before .before .before .before .before .before .before .before .before .before .before .before .before .before .args in
-    c .other-length .result ≡ (bit 3 (a .fields .flags) && (bit 5 (a .fields .flags) && not (eqb (length (now (a .signature))) 64)))
-long c = c .other-length .ensures ∙ rw (c .before .has3 .ensures, c .before .before .before .before .before .before .before .before .has .ensures)
+long : (c : tie.After-other-length) → let a = c .before .before .before .before .before .before .before .before .before .before .before .before .before .before .before .args in
+    c .other-length .result ≡ (bit 3 (a .fields .flags) && (bit 5 (a .fields .flags) && not (eqb (length (now (a .signature))) (signsOf (now (a .destination))))))
+long c =
+    c .other-length .ensures
+    ∙ rw (c .before .has3 .ensures, c .before .before .signature-length .ensures, c .before .before .before .before .before .before .before .before .before .has .ensures)
 
 has-requires : tie.Need-has-requires
 has-requires c κs = search needs
@@ -67,6 +69,9 @@ returns-5 c =
     let e = o .before .before .before in
     another-form _ _ _ _ _ _ (few e) (off e) (fit (o .before)) (sym (form o) ∙ c .if5 .taken)
 
+signature-length-requires : tie.Need-signature-length-requires
+signature-length-requires c κs = search needs
+
 has-requires-3 : tie.Need-has-requires-3
 has-requires-3 c κs = search needs
 
@@ -76,18 +81,18 @@ other-length-requires c κs = search needs
 returns-6 : tie.Need-returns-6
 returns-6 c =
     let l = c .before in
-    let o = l .before .before in
+    let o = l .before .before .before in
     let g = o .before .before in
     let e = g .before .before in
     another-length _ _ _ _ _ _ (few e) (off e) (fit g) (sym (form (o .before)) ∙ o .if5 .left) (sym (long l) ∙ c .if6 .taken)
 
 sizes-requires : tie.Need-sizes-requires
-sizes-requires c κs = few (c .before .before .before .before .before .before .before)
+sizes-requires c κs = few (c .before .before .before .before .before .before .before .before)
 
 returns-7 : tie.Need-returns-7
 returns-7 c =
     let l = c .before .before in
-    let o = l .before .before in
+    let o = l .before .before .before in
     let g = o .before .before in
     let e = g .before .before in
     c .sizes .ensures ∙ by-length _ _ _ _ _ _ (few e) (off e) (fit g) (sym (form (o .before)) ∙ o .if5 .left) (sym (long l) ∙ c .before .if6 .left)
@@ -105,6 +110,7 @@ judge-spec =
     returns-4
     other-form-requires
     returns-5
+    signature-length-requires
     has-requires-3
     other-length-requires
     returns-6
