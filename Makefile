@@ -1,8 +1,13 @@
 # Two commands for a newcomer: `make demo` and `make test`. Both need the Rattle toolchain (`rt`), `rustc` and `make`, and nothing else.
 SEED ?= 1
 SOAK_COUNT ?= 5000000
+# What the comparison asks: `drive`, or the model of document 01.
+WHO ?= drive
+# Its topics, the longest first.
+TOPICS := sender model timer write read receive ack vectors slips
+AT_ONCE := --no-print-directory --jobs=2 --output-sync
 
-.PHONY: demo test links expected built compare soak wrong host
+.PHONY: demo test links oracle proved host stored lamps cuts compare expected soak wrong
 
 # The story of the lamps: the same packets, given to our receiver and to the Rust's.
 demo:
@@ -12,48 +17,60 @@ demo:
 	@echo '== The Rust as given, the same packets =='
 	@target/oracle/oracle lamps
 
-# The tests, two at a time, then the verdict. `rt ci` starts from nothing, and runs `drive_compared` on what `expected` wrote, which is then no longer needed;
-# its last line is 'N passed, 0 failed'.
-test:
-	@$(MAKE) --no-print-directory --jobs=2 --output-sync links expected host
-	@rt ci
-	@rm crates/drive_compared/stdin crates/drive_compared/stdout
+# The tests. `rt ci` starts from nothing, proves every crate, tries the wrong programs and runs the programs. What it proved is then linked into hosts in C and
+# asked every script of the comparison, two at a time. The last line is the verdict of `rt ci`, which comes only where everything held.
+test: links
+	@tools/told ci
+	@$(MAKE) $(AT_ONCE) oracle host
+	@$(MAKE) $(AT_ONCE) $(TOPICS:%=compare-%) stored lamps cuts
+	@cat target/verdict
 
-# The index of promises leads to what it names.
+# The index of promises leads to what it names, and each promise is the one that its line takes.
 links:
 	@tools/links
+	@tools/promises
 
-# The model of document 01 beside the Rust as given, on every script; and the model's answers as what our programs are to answer: `drive_compared` those
-# scripts, `drive` its stored one.
-expected:
+oracle:
 	@oracle/build.sh
-	@oracle/all.sh model $(SEED)
+
+# The program that answers scripts.
+proved:
+	@tools/told check drive
+
+# Hosts in C over the static library.
+host: proved
+	@tools/host
+
+# A topic of the comparison (oracle/NOTES.md).
+compare-%:
+	@oracle/compare.sh $(WHO) $* $(SEED)
+
+# The stored script of `drive` has the model's answers.
+stored:
 	@target/oracle/oracle model answer <crates/drive/stdin | diff - crates/drive/stdout
 	@echo "crates/drive/stdout: the model's answers"
-	@target/oracle/oracle lamps | sed -n 's/^\(packet [^:]*\):.*/\1/p' >target/oracle/lamps
-	@sed -n 's/^\(packet [^:]*\):.*/\1/p' crates/lamps/stdout | diff - target/oracle/lamps
 
-# The program that answers scripts, and the oracle.
-built:
-	@tools/build drive
+# The Rust is given the packets of `lamps` in the same order.
+lamps:
+	@target/oracle/oracle lamps | sed -n 's/^\(packet [^:]*\):.*/\1/p' >target/oracle/lamps.order
+	@sed -n 's/^\(packet [^:]*\):.*/\1/p' crates/lamps/stdout | diff - target/oracle/lamps.order
 
-# Our program itself beside the Rust, which says more than `make test` where they differ; and scripts that are cut.
-compare: built
-	@oracle/all.sh drive $(SEED)
+# Scripts that are cut.
+cuts:
 	@oracle/cuts.sh
 
+# The comparison alone: our program, the Rust and the model.
+compare: oracle proved
+	@$(MAKE) $(AT_ONCE) $(TOPICS:%=compare-%) stored lamps cuts
+
+# The model in the place of our program, with nothing proved.
+expected: oracle
+	@$(MAKE) $(AT_ONCE) WHO=model $(TOPICS:%=compare-%) stored lamps
+
 # Longer: rounds of whole runs and of hostile calls with seeds of their own, until SOAK_COUNT calls were compared.
-soak: built
+soak: oracle proved
 	@oracle/soak.sh $(SEED) $(SOAK_COUNT)
 
 # The wrong programs that the gate leaves out for its time (D47).
 wrong:
 	@tools/wrong
-
-# Hosts in C over the static library: each prints the lines that our own program of its name prints, but for the last of `thousand`,
-# which tells of the calls by value.
-host:
-	@tools/host lamps thousand
-	@diff crates/lamps/stdout target/host/lamps.out
-	@head -n 3 crates/thousand/stdout | diff - target/host/thousand.out
-	@echo 'host/lamps.c, host/thousand.c: the lines of crates/lamps and crates/thousand'

@@ -17,6 +17,7 @@ mod slips;
 mod stand_in;
 mod step;
 mod timer;
+mod vectors;
 mod write;
 // The given text looks for these at the root of its crate.
 use stand_in::{crypto, destination, error, primitives, runtime, sam};
@@ -38,8 +39,10 @@ fn main() -> ExitCode {
     let words: Vec<String> = std::env::args().skip(1).collect();
     let words: Vec<&str> = words.iter().map(String::as_str).collect();
     let passed = match words[..] {
-        ["receive", "slips", "gen"] => stdout().write_all(&slips::script()).is_ok(),
-        ["receive", "slips", "check"] => slips::check(),
+        ["slips", "gen"] => stdout().write_all(&slips::script()).is_ok(),
+        ["slips", "check"] => slips::check(),
+        ["vectors", "gen"] => stdout().write_all(&vectors::script()).is_ok(),
+        ["vectors", "check"] => vectors::check(),
         ["lamps"] => {
             lamps::show();
             true
@@ -73,7 +76,7 @@ fn main() -> ExitCode {
 }
 
 const USAGE: &str = "usage: oracle read|write|receive|ack|timer|sender|model gen|check SEED COUNT
-       oracle receive slips gen|check
+       oracle slips|vectors gen|check
        oracle model answer
        oracle lamps";
 

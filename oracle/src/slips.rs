@@ -133,7 +133,7 @@ pub fn check() -> bool {
     }
     let more = answers.next().is_some();
     println!(
-        "receive slips: {} shown, {changed} answers changed{}",
+        "slips: {} shown, {changed} answers changed{}",
         SLIPS.len(),
         if more { ", answers left over" } else { "" }
     );

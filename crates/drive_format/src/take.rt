@@ -1,7 +1,7 @@
 // Takes what a call asks into the registers, field by field as its row of the table says.
+use super::input;
 use super::table;
 use super::table::SIZE;
-use program_script::input;
 use program_script::registers;
 use program_script::registers::Bank;
 use program_script::registers::Bytes;

@@ -1,9 +1,10 @@
 // Tells what a call answered, in one line, as its row of the table says: its word, its numbers, the state after it, and the checksum of what was lent.
 // What puts a part of the line at a place answers the place behind it.
+use super::input;
+use super::output;
+use super::output::Page;
 use super::table;
 use super::table::SIZE;
-use program_script::output;
-use program_script::output::Page;
 use program_script::registers;
 use program_script::registers::ANSWERS;
 use program_script::registers::Bank;
@@ -121,9 +122,11 @@ fn line(page: &mut Page, bank: &Bank, letter: u8) -> usize {
     parts(page, next, bank, told)
 }
 
-// The line of a call.
-pub fn call(bank: &Bank, letter: u8) {
+// The line of a call. Where it cannot be written, the script ends as a bad one does.
+pub fn call(bank: &mut Bank, letter: u8) {
     let mut page = [0u8; output::SIZE];
     let n = line(&mut page, bank, letter);
-    output::write(&page, n);
+    if !output::write(&page, n) {
+        input::spoil(bank);
+    }
 }

@@ -1,7 +1,9 @@
 // What `drive` calls on packets: 'r' reads one, 'd' judges a destination, 'w' writes a packet. What each asks stands in the registers, and its answer goes there.
-use program_lines::part;
 use packet_read::Packet;
 use packet_read::Reading;
+use packet_write::Fields;
+use packet_write::Writing;
+use program_lines::part;
 use program_script::registers;
 use program_script::registers::ANSWERS;
 use program_script::registers::Bank;
@@ -13,8 +15,6 @@ use program_script::registers::SUM;
 use program_script::sum;
 use terms::SeqNo;
 use terms::StreamId;
-use packet_write::Fields;
-use packet_write::Writing;
 
 fn wide(x: u16) -> u64 {
     x as u64

@@ -1,9 +1,9 @@
 // What `drive` calls on a receiver: 'S' starts it, 'R' and 'B' set its state and its store, 'a' accepts, 't' takes, 'k' acknowledges.
 // The state and what a call asks stand in the registers, and its answer goes there.
-use receiver_ack::Acknowledged;
+ghost use Rattle.program_script.specs.Numbers.{Filled};
+ghost use Rattle.drive_receiver.specs.Registers.{markIn, ReceiverIn};
 use drive_state::tell;
 use program_lines::part;
-use receiver_calls::Accepted;
 use program_script::registers;
 use program_script::registers::Bank;
 use program_script::registers::Bytes;
@@ -15,11 +15,15 @@ use program_script::registers::RECEIVER_STORE;
 use program_script::registers::SUM;
 use program_script::registers::Store;
 use program_script::sum;
+use receiver_ack::Acknowledged;
+use receiver_calls::Accepted;
 use receiver_state::Receiver;
 use terms::SeqNo;
 use terms::StreamId;
 
-fn marks(bank: &Bank) -> [u16; 512] {
+fn marks(bank: &Bank) -> [u16; 512]
+    ensures { λ r. ⌜ Filled (markIn (now (bank .entry))) 512 r ⌝ }
+{
     let mut marks = [0u16; 512];
     let mut i = 0;
     while i < 512 {
@@ -30,7 +34,9 @@ fn marks(bank: &Bank) -> [u16; 512] {
 }
 
 // The receiver of the registers. 'u' is given it too.
-pub fn state(bank: &Bank) -> Receiver {
+pub fn state(bank: &Bank) -> Receiver
+    ensures { λ r. ⌜ ReceiverIn (now (bank .entry)) r ⌝ }
+{
     let slot = registers::word32(bank, RECEIVER);
     let next = SeqNo(registers::word32(bank, RECEIVER + 1));
     let highest = SeqNo(registers::word32(bank, RECEIVER + 2));

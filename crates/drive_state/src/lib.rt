@@ -1,12 +1,15 @@
 // The sender of the registers: its ten numbers, and its 192 places with four numbers each; and what calls on a receiver or a sender answer there.
 pub mod tell;
 
-use sender_state::Sender;
-use sender_state::Timer;
+ghost use mathlib.Core.Path.{_≡_};
+ghost use Rattle.program_script.specs.Numbers.{Filled};
+ghost use Rattle.drive_state.specs.Registers.{fieldIn, timeIn, timingIn, timerIn, SenderIn};
 use program_script::registers;
 use program_script::registers::Bank;
 use program_script::registers::PLACES;
 use program_script::registers::SENDER;
+use sender_state::Sender;
+use sender_state::Timer;
 use terms::SeqNo;
 use timer::Timing;
 
@@ -18,7 +21,9 @@ const SENT: usize = 2;
 
 const MARK: usize = 3;
 
-fn timing(bank: &Bank) -> Timing {
+fn timing(bank: &Bank) -> Timing
+    ensures { λ r. ⌜ r ≡ timingIn (now (bank .entry)) ⌝ }
+{
     let rtt = registers::word32(bank, SENDER + 5);
     let deviation = registers::word32(bank, SENDER + 6);
     if registers::value(bank, SENDER + 4) == 0 {
@@ -30,7 +35,9 @@ fn timing(bank: &Bank) -> Timing {
     }
 }
 
-fn timer(bank: &Bank) -> Timer {
+fn timer(bank: &Bank) -> Timer
+    ensures { λ r. ⌜ r ≡ timerIn (now (bank .entry)) ⌝ }
+{
     if registers::value(bank, SENDER + 7) == 0 {
         return Timer::Unarmed;
     }
@@ -38,7 +45,9 @@ fn timer(bank: &Bank) -> Timer {
 }
 
 // A field of all places.
-fn column(bank: &Bank, field: usize) -> [u32; 192] {
+fn column(bank: &Bank, field: usize) -> [u32; 192]
+    ensures { λ r. ⌜ Filled (fieldIn (now (bank .entry)) field) 192 r ⌝ }
+{
     let mut all = [0u32; 192];
     let mut i = 0;
     while i < 192 {
@@ -49,7 +58,9 @@ fn column(bank: &Bank, field: usize) -> [u32; 192] {
 }
 
 // The send times of all places.
-fn times(bank: &Bank) -> [u64; 192] {
+fn times(bank: &Bank) -> [u64; 192]
+    ensures { λ r. ⌜ Filled (timeIn (now (bank .entry))) 192 r ⌝ }
+{
     let mut all = [0u64; 192];
     let mut i = 0;
     while i < 192 {
@@ -59,7 +70,10 @@ fn times(bank: &Bank) -> [u64; 192] {
     all
 }
 
-pub fn given(bank: &Bank) -> Sender {
+// The sender of the registers.
+pub fn given(bank: &Bank) -> Sender
+    ensures { λ r. ⌜ SenderIn (now (bank .entry)) r ⌝ }
+{
     let chunk = registers::word32(bank, SENDER);
     let count = registers::word32(bank, SENDER + 1);
     let next = SeqNo(registers::word32(bank, SENDER + 2));

@@ -1,9 +1,9 @@
 // What the calls on a receiver or a sender answer, in the registers.
-use sender_state::Tally;
 use program_script::registers;
 use program_script::registers::Bank;
 use program_script::registers::SUM;
 use program_script::sum;
+use sender_state::Tally;
 use terms::Answer;
 use terms::Given;
 

@@ -1,7 +1,7 @@
 // What happens, in words.
-use program_lines::say;
 use packet_read::Packet;
 use packet_read::Reading;
+use program_lines::say;
 use terms::Refusal;
 
 fn why(number: u32) {

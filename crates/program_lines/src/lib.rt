@@ -1,4 +1,3 @@
-// Text for the programs: words and numbers to standard output, parts of lent bytes, and lines of words `name=value`.
-pub mod line;
+// Text for the programs: words and numbers to standard output, and parts of lent bytes.
 pub mod part;
 pub mod say;

@@ -1,5 +1,3 @@
-// What a script stands on: bytes in, text out, and the registers between the two.
-pub mod input;
-pub mod output;
+// What a call of a script stands on: the registers, and the checksum in which it tells of bytes.
 pub mod registers;
 pub mod sum;

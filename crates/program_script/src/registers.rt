@@ -1,8 +1,9 @@
 // The registers. Every number stands in one array, the bank: those that a call asks, those that it answers, and those that are kept
 // from call to call. So a call is lent one array and not ten. The bytes that a call asks, an output and the two stores stand beside it.
 ghost use mathlib.Core.Path.{_≡_};
-ghost use Prim.Native.Nat.{_≤_};
+ghost use Prim.Native.Nat.{_≤_, _%_};
 ghost use lib.ListN.{length};
+ghost use Rattle.program_script.specs.Numbers.{numberIn, nackIn, Filled};
 
 pub const NUMBERS: usize = 1792;
 
@@ -49,7 +50,9 @@ pub const PLACES: usize = 1024;
 pub const NACKS: usize = 128;
 
 // The number at a place of the bank, and 0 where there is no such place.
-pub fn value(bank: &Bank, at: usize) -> u64 {
+pub fn value(bank: &Bank, at: usize) -> u64
+    ensures { λ r. ⌜ r ≡ numberIn (now (bank .entry)) at ⌝ }
+{
     if at < NUMBERS { bank[at] } else { 0 }
 }
 
@@ -61,25 +64,33 @@ pub fn put(bank: &mut Bank, at: usize, x: u64) {
 }
 
 // The number at a place as a length, and cut to 32, 16 and 8 bits.
-pub fn length(bank: &Bank, at: usize) -> usize {
+pub fn length(bank: &Bank, at: usize) -> usize
+    ensures { λ r. ⌜ r ≡ numberIn (now (bank .entry)) at ⌝ }
+{
     value(bank, at) as usize
 }
 
-pub fn word32(bank: &Bank, at: usize) -> u32 {
+pub fn word32(bank: &Bank, at: usize) -> u32
+    ensures { λ r. ⌜ r ≡ numberIn (now (bank .entry)) at % 4294967296 ⌝ }
+{
     (value(bank, at) % 4294967296) as u32
 }
 
-pub fn word16(bank: &Bank, at: usize) -> u16 {
+pub fn word16(bank: &Bank, at: usize) -> u16
+    ensures { λ r. ⌜ r ≡ numberIn (now (bank .entry)) at % 65536 ⌝ }
+{
     (value(bank, at) % 65536) as u16
 }
 
-pub fn word8(bank: &Bank, at: usize) -> u8 {
+pub fn word8(bank: &Bank, at: usize) -> u8
+    ensures { λ r. ⌜ r ≡ numberIn (now (bank .entry)) at % 256 ⌝ }
+{
     (value(bank, at) % 256) as u8
 }
 
 // The NACKs of the call, behind them 0.
 pub fn nacks(bank: &Bank) -> [u32; 300]
-    ensures { λ r. ⌜ 300 ≡ length r ⌝ }
+    ensures { λ r. ⌜ Filled (nackIn (now (bank .entry))) 300 r ⌝ }
 {
     let mut nacks = [0u32; 300];
     let mut i = 0;

@@ -23,7 +23,9 @@ fn four(bytes: &[u8], at: usize) -> u64
 
 // Starts at 0; each byte makes it (sum * 1000003 + byte + 1) % 4294967291. Four bytes are taken in one step, which is much faster: a sum
 // waits for the one before it, and what four bytes add waits for nothing.
-pub fn checksum(bytes: &[u8]) -> u64 {
+pub fn checksum(bytes: &[u8]) -> u64
+    ensures { λ r. ⌜ r < 4294967291 ⌝ }
+{
     let n = bytes.len();
     let mut sum: u64 = 0;
     let mut i = 0;

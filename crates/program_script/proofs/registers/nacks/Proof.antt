@@ -1,19 +1,20 @@
--- The index stays within the list, which keeps its length. The measure is how many numbers are left.
-use Prim.Native.Nat.{_≤_, _-_}
-use mathlib.Core.Path.{_≡_}
-use lib.ListN.{length}
+-- The places below the index are filled. The measure is how many numbers are left.
+use Prim.Native.Nat.{_-_}
+use mathlib.Core.Path.{refl}
 use borrow.Author.Needs.{needs}
+use Rattle.program_script.specs.Numbers.{nackIn}
+use Rattle.program_script.proofs.Filling.{Filling, filling-none, filling-more, filling-all}
 use Rattle.program_script.proofs.registers.nacks.Statement.{statement}
 use Rattle.program_script.proofs.registers.nacks.Tie as tie
 
 abbrev Inv-loop : tie.InvT-loop
-Inv-loop bank nacks₀ i₀ nacks i = (i ≤ 300) × (300 ≡ length nacks)
+Inv-loop bank nacks₀ i₀ nacks i = Filling (nackIn bank) 300 i nacks
 
 abbrev μ-loop : tie.MeasureT-loop
 μ-loop bank nacks₀ i₀ nacks i = 300 - i
 
 loop-holds : tie.Need-loop-holds Inv-loop μ-loop
-loop-holds c = search needs
+loop-holds c = filling-none _ _ _ refl
 
 add-word32 : tie.Need-add-word32 Inv-loop μ-loop
 add-word32 c = search needs
@@ -34,10 +35,10 @@ loop-less : tie.Need-loop-less Inv-loop μ-loop
 loop-less c = search needs
 
 loop-again : tie.Need-loop-again Inv-loop μ-loop
-loop-again c = search needs
+loop-again c = filling-more _ _ _ _ _ (c .before .loop-test .taken) (c .word32 .ensures) (c .before .before .loop .inv)
 
 returns : tie.Need-returns Inv-loop μ-loop
-returns c = search needs
+returns c = filling-all _ _ _ _ (c .loop-test .left) (c .before .loop .inv)
 
 pub nacks-spec : {M : Type 1} → statement M
 nacks-spec =
