@@ -2,6 +2,7 @@
 use Prim.Native.Nat.{ℕ}
 use mathlib.Core.Path.{_≡_, ap}
 use mathlib.Core.List.{List}
+use lib.ListN.{length}
 use Rattle.terms.specs.declared.SeqNo.{SeqNo}
 use Rattle.terms.specs.declared.StreamId.{StreamId}
 use Rattle.terms.proofs.Determined.{determined}
@@ -34,9 +35,9 @@ module _ (s t : Receiver) (x y : List ℕ) where
       let e = determined p q in
       (ap (λ (o : Hosted). o .answer) e, ap (λ (o : Hosted). o .state) e, ap (λ (o : Hosted). o .lent) e)
 
-pub digitmeadow-start-determined : (r : Receiver) (n : SeqNo) (slot storeLength : ℕ) (a b : ℕ) (s t : Receiver)
-    → begun a s ≡ hostedStart r (startOf n slot storeLength) → begun b t ≡ hostedStart r (startOf n slot storeLength) → (a ≡ b) × (s ≡ t)
-digitmeadow-start-determined r n slot storeLength a b s t p q =
+pub digitmeadow-start-determined : (r : Receiver) (n : SeqNo) (slot : ℕ) (store : List ℕ) (a b : ℕ) (s t : Receiver)
+    → begun a s ≡ hostedStart r (startOf n slot (length store)) → begun b t ≡ hostedStart r (startOf n slot (length store)) → (a ≡ b) × (s ≡ t)
+digitmeadow-start-determined r n slot store a b s t p q =
     let e = determined p q in
     (ap (λ (o : Hosted). o .answer .refusal) e, ap (λ (o : Hosted). o .state) e)
 
