@@ -5,7 +5,7 @@ use lib.ListN.{take, drop}
 use Rattle.portions.specs.Fold.{Left}
 
 -- one call
-pub record Reading (State Given : Type 0) : Type 0 where
+pub record OneCall (State Given : Type 0) : Type 0 where
   -- what is given out: one thing, or nothing where the portion ends first
   pub gave : List Given
   pub used : ℕ
@@ -18,16 +18,16 @@ pub record Offered (State Given : Type 0) : Type 0 where
   pub unused : List ℕ
 
 -- after a byte: something given ends the call, and else the portion goes on
-abbrev pub unlessGiven : {State Given : Type 0} → List Given → State → Reading State Given → Reading State Given
+abbrev pub unlessGiven : {State Given : Type 0} → List Given → State → OneCall State Given → OneCall State Given
 unlessGiven (given ∷ none) state rest = record { gave = given ∷ []; used = 1; state = state }
 unlessGiven [] state rest = record { gave = rest .gave; used = suc (rest .used); state = rest .state }
 
 -- a call that used so many bytes before
-abbrev pub usedBefore : {State Given : Type 0} → ℕ → Reading State Given → Reading State Given
+abbrev pub usedBefore : {State Given : Type 0} → ℕ → OneCall State Given → OneCall State Given
 usedBefore n reading = record { gave = reading .gave; used = n + reading .used; state = reading .state }
 
 module _ {State Given : Type 0} (step : State → ℕ → Left State Given) where
-  abbrev pub untilGiven : State → List ℕ → Reading State Given
+  abbrev pub untilGiven : State → List ℕ → OneCall State Given
   untilGiven state [] = record { gave = []; used = 0; state = state }
   untilGiven state (byte ∷ rest) = unlessGiven (step state byte .gave) (step state byte .state) (untilGiven (step state byte .state) rest)
 

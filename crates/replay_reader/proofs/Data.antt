@@ -8,7 +8,7 @@ use borrow.Author.Tests.{eq-eqb, ne-eqb, le-leb, lt-leb}
 use lib.Dec.{leb, eqb}
 use lib.ListN.{length, take, drop, getD, length-append}
 use lib.Seq.{append-snoc, drop-cons}
-use Rattle.portions.specs.Stops.{Reading, untilGiven}
+use Rattle.portions.specs.Stops.{OneCall, untilGiven}
 use Rattle.replay_format.specs.Night.{Record, sizeFits, dataFits}
 use Rattle.replay_format.specs.Bytes.{Known, inData, beforeRecord, ended, readNightByte}
 

@@ -10,7 +10,7 @@ use lib.Seq.{take-all, length-take-le}
 use Rattle.terms.specs.Lists.{_atFrontOf_}
 use Rattle.terms.specs.Answers.{values}
 use Rattle.wire.proofs.Parts.{then-put}
-use Rattle.portions.specs.Stops.{Reading, usedBefore, untilGiven}
+use Rattle.portions.specs.Stops.{OneCall, usedBefore, untilGiven}
 use Rattle.replay_format.specs.Night.{Record, sizeFits, dataFits}
 use Rattle.replay_format.specs.Bytes.{Known, inData, beforeRecord, readNightByte}
 use Rattle.replay_reader.specs.Rules.{numbersOf}
@@ -50,7 +50,7 @@ module _ (whole : NightReader) (buffer portion : List ℕ) (kind size there at :
       let after = put-behind buffer (drop at portion) last there (omega arith) (rw all at e) in
       let is = data-short kind size (take there buffer) (drop at portion) (omega arith) in
       (λ k. record { says = values []; used = used k; reader = record { phase = 5; kind = kind; size = size; there = now-there k }; buffer = after k })
-      ∙ sym (ap (λ (x : Reading Known Record). onwardBy whole buffer (usedBefore at x)) is)
+      ∙ sym (ap (λ (x : OneCall Known Record). onwardBy whole buffer (usedBefore at x)) is)
 
   -- the data, where it is all there
   abbrev whole-data : List ℕ
@@ -94,7 +94,7 @@ module _ (whole : NightReader) (buffer portion : List ℕ) (kind size there at :
       (λ p. other-fits kind size whole-data (sym (long full)) fits p) in
       let is = data-full kind size (take there buffer) (drop at portion) (size - there) (omega arith) (omega arith) (omega arith) good in
       (λ k. record { says = values (kind ∷ long full k ∷ []); used = at + (size - there); reader = record { phase = 2; kind = 0; size = 0; there = 0 }; buffer = after k })
-      ∙ sym (ap (λ (x : Reading Known Record). onwardBy whole buffer (usedBefore at x)) is)
+      ∙ sym (ap (λ (x : OneCall Known Record). onwardBy whole buffer (usedBefore at x)) is)
 
   pub fills-unfit : size - there ≤ length portion - at → kind ≡ 4 → 1 < getD portion at 0 → Fills (turnedBack 29 whole buffer)
   unfolding onwardBy
@@ -103,4 +103,4 @@ module _ (whole : NightReader) (buffer portion : List ℕ) (kind size there at :
       let l = length-take-le there buffer (omega arith) in
       let bad : dataFits kind whole-data ≡ false = ap (dataFits kind) (path-data p full) ∙ path-unfit kind size (getD portion at 0) fits (path-one kind size fits p) p large in
       let is = data-unfit kind size (take there buffer) (drop at portion) (size - there) (omega arith) (omega arith) (omega arith) bad in
-      sym (ap (λ (x : Reading Known Record). onwardBy whole buffer (usedBefore at x)) is)
+      sym (ap (λ (x : OneCall Known Record). onwardBy whole buffer (usedBefore at x)) is)

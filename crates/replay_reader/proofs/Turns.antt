@@ -14,7 +14,7 @@ use Rattle.terms.specs.Lists.{_atFrontOf_}
 use Rattle.terms.specs.Refusals.{numberOf}
 use Rattle.terms.specs.declared.Refusal.{Refusal}
 use Rattle.portions.specs.Fold.{Left, quiet}
-use Rattle.portions.specs.Stops.{Reading, usedBefore, untilGiven}
+use Rattle.portions.specs.Stops.{OneCall, usedBefore, untilGiven}
 use Rattle.replay_format.specs.Night.{Record, sizeFits}
 use Rattle.replay_format.specs.Bytes.{Known, inHead, beforeRecord, atLength, inLength, inData, ended, completes, headByte, readNightByte}
 use Rattle.replay_reader.specs.Rules.{knownOf, numbersOf, dataThere, readerRules}
@@ -95,10 +95,10 @@ module _ (whole : NightReader) (portion buffer₀ buffer : List ℕ) (r : NightR
   unfolding onwardBy
   along-refused why e =
       let goes : readNightByte (knownOf r buffer₀) byte ≡ quiet (ended (numberOf why)) = sym (step .to buffer₀) ∙ ap (λ (x : Stepped). steppedTo x buffer₀) e in
-      let went : _≡_ {A = Reading Known Record} (untilGiven readNightByte (knownOf r buffer₀) (byte ∷ drop (suc at) portion))
+      let went : _≡_ {A = OneCall Known Record} (untilGiven readNightByte (knownOf r buffer₀) (byte ∷ drop (suc at) portion))
       (record { gave = []; used = suc (length (drop (suc at) portion)); state = ended (numberOf why) }) = rw (goes, until-ended (numberOf why) (drop (suc at) portion)) in
       ap (turnedBack (numberOf why) whole) (so .lent)
-      ∙ sym (ap (λ (x : Reading Known Record). onwardBy whole buffer₀ (usedBefore at x)) (left-is ∙ went))
+      ∙ sym (ap (λ (x : OneCall Known Record). onwardBy whole buffer₀ (usedBefore at x)) (left-is ∙ went))
       ∙ ap (onwardBy whole buffer₀) (so .same)
 
   pub along-complete : (kind : ℕ) → s ≡ S.Complete kind
@@ -107,10 +107,10 @@ module _ (whole : NightReader) (portion buffer₀ buffer : List ℕ) (r : NightR
   unfolding onwardBy
   along-complete kind e =
       let goes : readNightByte (knownOf r buffer₀) byte ≡ completes kind [] = sym (step .to buffer₀) ∙ ap (λ (x : Stepped). steppedTo x buffer₀) e in
-      let went : _≡_ {A = Reading Known Record} (untilGiven readNightByte (knownOf r buffer₀) (byte ∷ drop (suc at) portion))
+      let went : _≡_ {A = OneCall Known Record} (untilGiven readNightByte (knownOf r buffer₀) (byte ∷ drop (suc at) portion))
       (record { gave = record { kind = kind; bytes = [] } ∷ []; used = 1; state = beforeRecord false }) = rw goes in
       (λ k. record { says = values (kind ∷ 0 ∷ []); used = at + 1; reader = record { phase = 2; kind = 0; size = 0; there = 0 }; buffer = so .lent k })
-      ∙ sym (ap (λ (x : Reading Known Record). onwardBy whole buffer₀ (usedBefore at x)) (left-is ∙ went))
+      ∙ sym (ap (λ (x : OneCall Known Record). onwardBy whole buffer₀ (usedBefore at x)) (left-is ∙ went))
       ∙ ap (onwardBy whole buffer₀) (so .same)
 
 module _ (whole : NightReader) (portion buffer₀ buffer : List ℕ) (r : NightReader) (at : ℕ) (so : Along whole portion buffer₀ buffer r at) where

@@ -8,7 +8,7 @@ use Rattle.terms.specs.Refusals.{numberOf}
 use Rattle.terms.specs.Ladder.{_when_else_}
 use Rattle.terms.specs.Lists.{_atFrontOf_}
 use Rattle.terms.specs.Answers.{Said, refusal, values}
-use Rattle.portions.specs.Stops.{Reading, untilGiven}
+use Rattle.portions.specs.Stops.{OneCall, untilGiven}
 use Rattle.replay_format.specs.Night.{Record}
 use Rattle.replay_format.specs.Bytes.{Known, inHead, beforeRecord, atLength, inLength, inData, ended, readNightByte}
 use Rattle.replay_reader.specs.Rules.{knownOf, numbersOf, dataThere, readerRules}
@@ -54,7 +54,7 @@ on unlessEnded inData kind size there by f = on
 on unlessEnded ended why by f = f why
 
 -- a call that read up to the first complete record, or to the portion's end
-unfoldable pub onwardBy : NightReader → List ℕ → Reading Known Record → Onwards
+unfoldable pub onwardBy : NightReader → List ℕ → OneCall Known Record → Onwards
 onwardBy r buffer reading =
     record {
       says = recordSaid (reading .gave);

@@ -6,16 +6,16 @@ use native.Mathlib.Omega.{arith}
 use borrow.Author.Tests.{eq-eqb, ne-eqb}
 use lib.ListN.{length, take, length-append}
 use lib.Seq.{append-snoc}
-use Rattle.portions.specs.Stops.{Reading, usedBefore, untilGiven}
+use Rattle.portions.specs.Stops.{OneCall, usedBefore, untilGiven}
 use Rattle.serial_state.specs.Frames.{Coming, idle, within, stopped, readByte}
 
-pub used-none : {State Given : Type 0} (reading : Reading State Given) → usedBefore 0 reading ≡ reading
+pub used-none : {State Given : Type 0} (reading : OneCall State Given) → usedBefore 0 reading ≡ reading
 used-none reading = let e : 0 + reading .used ≡ reading .used = omega arith in λ k. record { gave = reading .gave; used = e k; state = reading .state }
 
-pub used-one : {State Given : Type 0} (reading : Reading State Given) → usedBefore 1 reading ≡ record { gave = reading .gave; used = suc (reading .used); state = reading .state }
+pub used-one : {State Given : Type 0} (reading : OneCall State Given) → usedBefore 1 reading ≡ record { gave = reading .gave; used = suc (reading .used); state = reading .state }
 used-one reading = let e : 1 + reading .used ≡ suc (reading .used) = omega arith in λ k. record { gave = reading .gave; used = e k; state = reading .state }
 
-pub used-two : {State Given : Type 0} (reading : Reading State Given) → usedBefore 2 reading ≡ record { gave = reading .gave; used = suc (suc (reading .used)); state = reading .state }
+pub used-two : {State Given : Type 0} (reading : OneCall State Given) → usedBefore 2 reading ≡ record { gave = reading .gave; used = suc (suc (reading .used)); state = reading .state }
 used-two reading = let e : 2 + reading .used ≡ suc (suc (reading .used)) = omega arith in λ k. record { gave = reading .gave; used = e k; state = reading .state }
 
 module _ (room : ℕ) where

@@ -13,7 +13,7 @@ use Rattle.terms.specs.Lists.{_atFrontOf_}
 use Rattle.terms.specs.Answers.{refusal, values}
 use Rattle.terms.proofs.Laws.{or-false-left, or-false-right}
 use Rattle.wire.proofs.Parts.{then-put}
-use Rattle.portions.specs.Stops.{Reading, usedBefore, untilGiven}
+use Rattle.portions.specs.Stops.{OneCall, usedBefore, untilGiven}
 use Rattle.serial_state.specs.Frames.{Coming, idle, half, within, stopped, isUnfit, afterLength, readByte}
 use Rattle.serial_state.specs.Rules.{comingOf, readerOf, lineRules}
 use Rattle.serial_state.specs.declared.LineReader.{LineReader}
@@ -49,7 +49,7 @@ module _ (room : ℕ) (buffer portion last : List ℕ) (size there at : ℕ) (le
       let after = put-behind buffer (drop at portion) last there (omega arith) (rw whole at e) in
       let is = within-short room size (take there buffer) (drop at portion) (omega arith) in
       (λ k. record { says = values []; used = used k; state = record { room = room; phase = 2; high = 0; size = size; there = now-there k }; buffer = after k })
-      ∙ sym (ap (λ (x : Reading Coming (List ℕ)). heardBy room buffer (usedBefore at x)) is)
+      ∙ sym (ap (λ (x : OneCall Coming (List ℕ)). heardBy room buffer (usedBefore at x)) is)
 
   pub fills-full : size - there ≤ length portion - at
       → last ≡ take (at + (size - there) - at) (drop at portion) atFrontOf take (length buffer - there) (drop there buffer)
@@ -71,7 +71,7 @@ module _ (room : ℕ) (buffer portion last : List ℕ) (size there at : ℕ) (le
       let after = put-behind buffer (take (size - there) (drop at portion)) last there (omega arith) (rw n at e) in
       let is = within-full room size (take there buffer) (drop at portion) (size - there) (omega arith) (omega arith) (omega arith) in
       (λ k. record { says = values (long k ∷ []); used = at + (size - there); state = readerOf room idle; buffer = after k })
-      ∙ sym (ap (λ (x : Reading Coming (List ℕ)). heardBy room buffer (usedBefore at x)) is)
+      ∙ sym (ap (λ (x : OneCall Coming (List ℕ)). heardBy room buffer (usedBefore at x)) is)
 
 -- a length that is refused, and one that is not
 pub length-unfit : (room : ℕ) (buffer rest : List ℕ) (size at : ℕ) → isUnfit room size ≡ true

@@ -8,7 +8,7 @@ use Rattle.terms.specs.Refusals.{numberOf}
 use Rattle.terms.specs.Ladder.{_when_else_}
 use Rattle.terms.specs.Lists.{_atFrontOf_}
 use Rattle.terms.specs.Answers.{Said, refusal, values}
-use Rattle.portions.specs.Stops.{Reading, untilGiven}
+use Rattle.portions.specs.Stops.{OneCall, untilGiven}
 use Rattle.serial_state.specs.Frames.{Coming, stopped, isStopped, readByte}
 use Rattle.serial_state.specs.Rules.{comingOf, readerOf, thereIn, lineRules}
 use Rattle.serial_state.specs.declared.LineReader.{LineReader}
@@ -44,7 +44,7 @@ frontIn [] coming = thereIn coming
 
 -- A call that read up to the first full packet, or to the portion's end. A length that is refused stops the reader: no byte is used, and nothing is
 -- kept of that length.
-unfoldable pub heardBy : ℕ → List ℕ → Reading Coming (List ℕ) → Feeds
+unfoldable pub heardBy : ℕ → List ℕ → OneCall Coming (List ℕ) → Feeds
 heardBy room buffer reading =
     turnedAway 30 (readerOf room stopped) buffer when isStopped (reading .state) else
     record {

@@ -14,7 +14,7 @@ use Rattle.terms.specs.Answers.{Said}
 use Rattle.terms.proofs.Laws.{and-left, and-right}
 use Rattle.wire.specs.BigEndian.{isByte}
 use Rattle.portions.specs.Fold.{Left, quiet, behind, readAll}
-use Rattle.portions.specs.Stops.{Reading, unlessGiven, untilGiven}
+use Rattle.portions.specs.Stops.{OneCall, unlessGiven, untilGiven}
 use Rattle.portions.proofs.Stops as P
 use Rattle.serial_state.specs.Frames.{Coming, idle, half, within, stopped, isStopped, isUnfit, afterLength, readByte}
 use Rattle.serial_state.specs.Rules.{comingOf, readerOf, thereIn, lineRules}
