@@ -7,7 +7,7 @@ WHO ?= drive
 TOPICS := sender model timer write read receive ack vectors slips
 AT_ONCE := --no-print-directory --jobs=2 --output-sync
 
-.PHONY: demo test links oracle proved host stored lamps cuts compare expected soak wrong
+.PHONY: demo test links oracle proved host stored lamps joined cuts compare expected soak wrong
 
 # The story of the lamps: the same packets, given to our receiver and to the Rust's.
 demo:
@@ -22,7 +22,7 @@ demo:
 test: links
 	@tools/told ci
 	@$(MAKE) $(AT_ONCE) oracle host
-	@$(MAKE) $(AT_ONCE) $(TOPICS:%=compare-%) stored lamps cuts
+	@$(MAKE) $(AT_ONCE) $(TOPICS:%=compare-%) stored lamps joined cuts
 	@cat target/verdict
 
 # The index of promises leads to what it names, and each promise is the one that its line takes.
@@ -55,6 +55,10 @@ lamps:
 	@target/oracle/oracle lamps | sed -n 's/^\(packet [^:]*\):.*/\1/p' >target/oracle/lamps.order
 	@sed -n 's/^\(packet [^:]*\):.*/\1/p' crates/lamps/stdout | diff - target/oracle/lamps.order
 
+# The model's sender and receiver, joined by a channel that loses, repeats and reorders.
+joined:
+	@oracle/joined.sh $(SEED) 200000
+
 # Scripts that are cut.
 cuts:
 	@oracle/cuts.sh
@@ -65,10 +69,12 @@ compare: oracle proved
 
 # The model in the place of our program, with nothing proved.
 expected: oracle
-	@$(MAKE) $(AT_ONCE) WHO=model $(TOPICS:%=compare-%) stored lamps
+	@$(MAKE) $(AT_ONCE) WHO=model $(TOPICS:%=compare-%) stored lamps joined
 
-# Longer: rounds of whole runs and of hostile calls with seeds of their own, until SOAK_COUNT calls were compared.
+# Longer: a million moves of a sender and a receiver that are joined; then rounds of whole runs and of hostile calls with seeds of their own, until
+# SOAK_COUNT calls were compared.
 soak: oracle proved
+	@oracle/joined.sh $(SEED) 1000000
 	@oracle/soak.sh $(SEED) $(SOAK_COUNT)
 
 # The wrong programs that the gate leaves out for its time (D47).

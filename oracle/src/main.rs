@@ -6,6 +6,7 @@ mod calls;
 mod common;
 mod host;
 mod hostile;
+mod joined;
 mod lamps;
 mod met;
 mod model;
@@ -48,6 +49,10 @@ fn main() -> ExitCode {
             true
         }
         ["model", "answer"] => answer_script().is_ok(),
+        ["joined", seed, moves] => {
+            let (Ok(seed), Ok(moves)) = (seed.parse(), moves.parse()) else { return usage() };
+            joined::simulate(seed, moves)
+        }
         [topic, action @ ("gen" | "check"), seed, count] => {
             let (Ok(seed), Ok(count)) = (seed.parse(), count.parse()) else { return usage() };
             match topic {
@@ -78,6 +83,7 @@ fn main() -> ExitCode {
 const USAGE: &str = "usage: oracle read|write|receive|ack|timer|sender|model gen|check SEED COUNT
        oracle slips|vectors gen|check
        oracle model answer
+       oracle joined SEED MOVES
        oracle lamps";
 
 fn usage() -> ExitCode {
