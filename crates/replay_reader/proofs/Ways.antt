@@ -126,7 +126,7 @@ right-low (suc (suc (suc zero))) byte h e = absurd (omega arith)
 right-low (suc (suc (suc (suc there)))) byte h e = record { to = λ _. rw (eq-eqb byte 1 e); keeps = refl }
 
 -- a kind byte
-at-most-6 : (first : Bool) (kind : ℕ) → hasPlace first kind ≡ true → kind ≤ 6
+pub at-most-6 : (first : Bool) (kind : ℕ) → hasPlace first kind ≡ true → kind ≤ 6
 at-most-6 true kind h = omega (arith, eqb-true kind 0 h)
 at-most-6 false kind h = leb-true kind 6 (and-right (leb 1 kind) (leb kind 6) h)
 

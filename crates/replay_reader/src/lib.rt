@@ -69,7 +69,7 @@ fn kind_of(x: u8) -> u32
 }
 
 // Whether a kind may stand here: 0 as the first record, 1 to 6 as any other.
-fn has_place(first: bool, kind: u32) -> bool
+pub fn has_place(first: bool, kind: u32) -> bool
     ensures { λ r. ⌜ r ≡ hasPlace first kind ⌝ }
 {
     if first {
@@ -79,7 +79,7 @@ fn has_place(first: bool, kind: u32) -> bool
 }
 
 // Whether a kind's data may be so long.
-fn size_fits(kind: u32, size: usize) -> bool
+pub fn size_fits(kind: u32, size: usize) -> bool
     ensures { λ r. ⌜ r ≡ sizeFits kind size ⌝ }
 {
     if kind == 0 {

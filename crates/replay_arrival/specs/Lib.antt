@@ -1,0 +1,2 @@
+-- What a packet does that arrives (Arrive).
+pub mod Arrive

@@ -1,0 +1,1 @@
+// No code: a recorded night, offered to its reader piece by piece.
