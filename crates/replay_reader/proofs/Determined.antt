@@ -1,12 +1,14 @@
 -- Any two results that a promise allows are equal: answer, count, reader and every byte of the buffer. Assumes nothing.
 use Prim.Native.Nat.{ℕ}
 use mathlib.Core.Path.{_≡_, refl, ap}
+use mathlib.Core.Bool.{Bool}
 use mathlib.Core.List.{List, [], _∷_}
 use native.Mathlib.Omega.{arith}
 use Rattle.terms.proofs.Numbers.{number-one}
 use Rattle.terms.proofs.Determined.{determined, said-one}
 use Rattle.terms.specs.Answers.{said}
 use Rattle.terms.specs.declared.Answer.{Answer}
+use Rattle.replay_format.specs.Night.{hasPlace, sizeFits}
 use Rattle.replay_reader.specs.ReadOn.{saidMet, Onwards, readOnOf, onward}
 use Rattle.replay_reader.specs.Finish.{finishOf}
 use Rattle.replay_reader.specs.Rules.{nightStart}
@@ -38,3 +40,9 @@ read-on-determined r portion buffer a b x y p q =
 
 pub finish-determined : (r : NightReader) (a b : Answer) → said a ≡ finishOf r → said b ≡ finishOf r → a ≡ b
 finish-determined r a b p q = said-one a b (determined p q)
+
+pub has-place-determined : (first : Bool) (kind : ℕ) (a b : Bool) → a ≡ hasPlace first kind → b ≡ hasPlace first kind → a ≡ b
+has-place-determined first kind a b p q = determined p q
+
+pub size-fits-determined : (kind size : ℕ) (a b : Bool) → a ≡ sizeFits kind size → b ≡ sizeFits kind size → a ≡ b
+size-fits-determined kind size a b p q = determined p q
