@@ -4,7 +4,7 @@ SOAK_COUNT ?= 5000000
 # What the comparison asks: `drive`, or the model of document 01.
 WHO ?= drive
 # Its topics, the longest first.
-TOPICS := sender model timer write read receive ack vectors slips
+TOPICS := sender model timer write read serial receive ack vectors slips
 AT_ONCE := --no-print-directory --jobs=2 --output-sync
 
 .PHONY: demo test links oracle proved host stored lamps joined cuts compare expected soak wrong
@@ -45,10 +45,11 @@ host: proved
 compare-%:
 	@oracle/compare.sh $(WHO) $* $(SEED)
 
-# The stored script of `drive` has the model's answers.
+# The stored script of `drive` has the model's answers, and so has the line of packets that `serial` reads.
 stored:
 	@target/oracle/oracle model answer <crates/drive/stdin | diff - crates/drive/stdout
-	@echo "crates/drive/stdout: the model's answers"
+	@target/oracle/oracle serial tell <crates/serial/stdin | diff - crates/serial/stdout
+	@echo "crates/drive/stdout, crates/serial/stdout: the model's answers"
 
 # The Rust is given the packets of `lamps` in the same order.
 lamps:

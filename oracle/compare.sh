@@ -15,6 +15,7 @@ model) cases=50000 ;;
 read) cases=100000 ;;
 write) cases=120000 ;;
 receive | ack | sender) cases=20000 ;;
+serial) cases=2000 ;;
 timer) cases=1000261 ;;
 slips | vectors) cases='' ;;
 *) exit 2 ;;

@@ -1,5 +1,5 @@
 //! The calls of a script, and how each is written: the table of docs/DRIVE.md.
-use crate::model::{receiver::Receiver, sender::Place, write::Fields};
+use crate::model::{receiver::Receiver, sender::Place, serial::LineReader, write::Fields};
 
 /// `length` bytes: `front`, and behind it `fill` in every byte.
 #[derive(Clone, Default)]
@@ -60,6 +60,10 @@ pub enum Call {
     Acks { through: u32, nacks: Vec<u32>, clock: u64 },
     Resend { clock: u64, path: u8 },
     Fetch { rank: u32, output: Buffer },
+    StartLine(Buffer),
+    SetLine(LineReader),
+    SetLineBuffer(Buffer),
+    Feed(Vec<u8>),
 }
 
 impl Call {
@@ -90,6 +94,12 @@ impl Call {
             Self::Acks { through, nacks, clock } => call(b'c').u32(*through).numbers(nacks).u64(*clock),
             Self::Resend { clock, path } => call(b'e').u64(*clock).u8(*path),
             Self::Fetch { rank, output } => call(b'h').u32(*rank).buffer(output),
+            Self::StartLine(buffer) => call(b'L').buffer(buffer),
+            Self::SetLine(reader) => {
+                call(b'I').u64(reader.room).u32(reader.phase).u32(reader.high).u64(reader.size).u64(reader.there)
+            }
+            Self::SetLineBuffer(buffer) => call(b'F').buffer(buffer),
+            Self::Feed(portion) => call(b'i').bytes(portion),
         }
         .0
     }

@@ -14,6 +14,7 @@ mod read;
 mod receive;
 mod samples;
 mod send;
+mod serial;
 mod slips;
 mod stand_in;
 mod step;
@@ -53,6 +54,7 @@ fn main() -> ExitCode {
             let (Ok(seed), Ok(moves)) = (seed.parse(), moves.parse()) else { return usage() };
             joined::simulate(seed, moves)
         }
+        ["serial", "tell"] => tell_line().is_ok(),
         [topic, action @ ("gen" | "check"), seed, count] => {
             let (Ok(seed), Ok(count)) = (seed.parse(), count.parse()) else { return usage() };
             match topic {
@@ -62,6 +64,7 @@ fn main() -> ExitCode {
                 "timer" => run::<timer::Case>(topic, action, seed, count),
                 "ack" => run::<ack::Acks>(topic, action, seed, count),
                 "sender" => run::<send::Run>(topic, action, seed, count),
+                "serial" => run::<serial::Cuts>(topic, action, seed, count),
                 "model" if action == "gen" => run::<hostile::Run>(topic, action, seed, count),
                 "model" => {
                     model::hand::check();
@@ -80,10 +83,11 @@ fn main() -> ExitCode {
     }
 }
 
-const USAGE: &str = "usage: oracle read|write|receive|ack|timer|sender|model gen|check SEED COUNT
+const USAGE: &str = "usage: oracle read|write|receive|ack|timer|sender|serial|model gen|check SEED COUNT
        oracle slips|vectors gen|check
        oracle model answer
        oracle joined SEED MOVES
+       oracle serial tell
        oracle lamps";
 
 fn usage() -> ExitCode {
@@ -96,6 +100,13 @@ fn answer_script() -> std::io::Result<()> {
     let mut script = vec![];
     stdin().read_to_end(&mut script)?;
     stdout().write_all(model::script::answers(&script).as_bytes())
+}
+
+/// The model in the place of our program `serial`.
+fn tell_line() -> std::io::Result<()> {
+    let mut line = vec![];
+    stdin().read_to_end(&mut line)?;
+    stdout().write_all(serial::told(&line).as_bytes())
 }
 
 fn run<C: Case>(topic: &str, action: &str, seed: u64, count: usize) -> bool {

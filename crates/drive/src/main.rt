@@ -10,14 +10,15 @@ use program_script::registers::Bytes;
 use program_script::registers::Output;
 use program_script::registers::Store;
 
-// The topic of a letter: packets, timing, a receiver, a sender's packets, or its state.
+// The topic of a letter: packets, timing, a receiver, a sender's packets, a serial line, or a sender's state.
 fn topic(letter: u8) -> u8 {
     match letter {
         b'r' | b'd' | b'w' => 0,
         b'x' | b'g' | b'f' => 1,
         b'S' | b'R' | b'B' | b'a' | b't' | b'k' => 2,
         b'u' | b's' | b'h' => 3,
-        _ => 4,
+        b'L' | b'I' | b'F' | b'i' => 4,
+        _ => 5,
     }
 }
 
@@ -28,6 +29,7 @@ fn call(
     out: &mut Output,
     received: &mut Store,
     sent: &mut Store,
+    line: &mut Output,
     letter: u8,
 ) {
     match topic(letter) {
@@ -35,6 +37,7 @@ fn call(
         1 => timing::call(bank, letter),
         2 => drive_receiver::call(bank, given, out, received, letter),
         3 => drive_stored::call(bank, given, out, sent, letter),
+        4 => drive_serial::call(bank, given, line, letter),
         _ => drive_sender::call(bank, sent, letter),
     }
 }
@@ -47,15 +50,16 @@ fn step(
     out: &mut Output,
     received: &mut Store,
     sent: &mut Store,
+    line: &mut Output,
     letter: u8,
 ) -> bool {
-    take::call(bank, given, out, received, sent, letter);
+    take::call(bank, given, out, received, sent, line, letter);
     if !drive_format::good(bank) {
         say::text(b"bad script\n");
         say::fault(b"bad script\n");
         return false;
     }
-    call(bank, given, out, received, sent, letter);
+    call(bank, given, out, received, sent, line, letter);
     tell::call(bank, letter);
     drive_format::good(bank)
 }
@@ -67,6 +71,7 @@ fn steps(
     out: &mut Output,
     received: &mut Store,
     sent: &mut Store,
+    line: &mut Output,
 ) {
     let mut turns = u64::MAX;
     while turns > 0 {
@@ -74,7 +79,15 @@ fn steps(
         if letter > 255 {
             return;
         }
-        if !step(bank, given, out, received, sent, (letter % 256) as u8) {
+        if !step(
+            bank,
+            given,
+            out,
+            received,
+            sent,
+            line,
+            (letter % 256) as u8,
+        ) {
             return;
         }
         turns -= 1;
@@ -88,5 +101,13 @@ fn main() {
     let mut out = [0u8; 70000];
     let mut received = [0u8; 930000];
     let mut sent = [0u8; 930000];
-    steps(&mut bank, &mut given, &mut out, &mut received, &mut sent);
+    let mut line = [0u8; 70000];
+    steps(
+        &mut bank,
+        &mut given,
+        &mut out,
+        &mut received,
+        &mut sent,
+        &mut line,
+    );
 }

@@ -1,8 +1,8 @@
 // The format's table: a row for each letter, as docs/DRIVE.md has them. A row is the letter, the word of its answer, the kinds of the fields
 // that it asks, and what its answer tells behind its numbers.
 //
-// Kinds: a number of 1, 2, 4 or 8 bytes; `b` bytes; `n` NACKs; `o` an output; `s` and `z` the receiver's and the sender's store; `m` marks; `p` places.
-// Told: `R` the receiver's state; `P` the sender's; `+` the checksum of what was lent.
+// Kinds: a number of 1, 2, 4 or 8 bytes; `b` bytes; `n` NACKs; `o` an output; `s` and `z` the receiver's and the sender's store; `y` a line's buffer; `m` marks; `p` places.
+// Told: `R` the receiver's state; `P` the sender's; `L` that of a line's reader; `+` the checksum of what was lent.
 pub const SIZE: usize = 1000;
 
 // The i-th byte of the table, and 0 behind its end.
@@ -28,7 +28,11 @@ pub fn at(i: usize) -> u8 {
         s send 8o P+\n\
         c acks 4n8 P\n\
         e resend 81 P\n\
-        h fetch 4o +\n";
+        h fetch 4o +\n\
+        L line y L\n\
+        I reader 84488 L\n\
+        F buffer y +\n\
+        i feed b L+\n";
     if i < rows.len() { rows[i] } else { 0 }
 }
 

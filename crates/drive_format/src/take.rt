@@ -7,6 +7,7 @@ use program_script::registers::Bank;
 use program_script::registers::Bytes;
 use program_script::registers::FIELDS;
 use program_script::registers::GIVEN;
+use program_script::registers::LINE_BUFFER;
 use program_script::registers::MARKS;
 use program_script::registers::NACKS;
 use program_script::registers::Output;
@@ -107,6 +108,7 @@ fn field(
     out: &mut Output,
     received: &mut Store,
     sent: &mut Store,
+    line: &mut Output,
     at: usize,
     kind: u8,
 ) {
@@ -115,6 +117,7 @@ fn field(
         b'o' => buffer(bank, out, at),
         b's' => buffer(bank, received, RECEIVER_STORE),
         b'z' => buffer(bank, sent, SENDER_STORE),
+        b'y' => buffer(bank, line, LINE_BUFFER),
         _ => plain(bank, at, kind),
     }
 }
@@ -136,6 +139,7 @@ pub fn call(
     out: &mut Output,
     received: &mut Store,
     sent: &mut Store,
+    line: &mut Output,
     letter: u8,
 ) {
     let asked = begin(bank, letter);
@@ -145,7 +149,7 @@ pub fn call(
         if kind == b' ' {
             return;
         }
-        field(bank, given, out, received, sent, i, kind);
+        field(bank, given, out, received, sent, line, i, kind);
         i += 1;
     }
 }

@@ -9,6 +9,7 @@ use program_script::registers;
 use program_script::registers::ANSWERS;
 use program_script::registers::Bank;
 use program_script::registers::COUNT;
+use program_script::registers::LINE;
 use program_script::registers::MARKS;
 use program_script::registers::PLACES;
 use program_script::registers::RECEIVER;
@@ -79,6 +80,7 @@ fn part(page: &mut Page, at: usize, bank: &Bank, told: u8) -> usize {
     match told {
         b'R' => receiver(page, at, bank),
         b'P' => sender(page, at, bank),
+        b'L' => output::numbers(page, at, bank, LINE, 5),
         _ => output::numbers(page, at, bank, SUM, 1),
     }
 }

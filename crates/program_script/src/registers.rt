@@ -1,5 +1,6 @@
 // The registers. Every number stands in one array, the bank: those that a call asks, those that it answers, and those that are kept
-// from call to call. So a call is lent one array and not ten. The bytes that a call asks, an output and the two stores stand beside it.
+// from call to call. So a call is lent one array and not ten. The bytes that a call asks, an output, the two stores and a
+// line's buffer, which is as long as an output, stand beside it.
 ghost use mathlib.Core.Path.{_≡_};
 ghost use Prim.Native.Nat.{_≤_, _%_};
 ghost use lib.ListN.{length};
@@ -45,6 +46,11 @@ pub const SENDER: usize = 72;
 pub const SENDER_STORE: usize = 82;
 
 pub const PLACES: usize = 1024;
+
+// The reader of a serial line: the buffer's length at its start, phase, high byte, length, how many bytes are there; and its buffer's length.
+pub const LINE: usize = 84;
+
+pub const LINE_BUFFER: usize = 89;
 
 // The NACKs of a call.
 pub const NACKS: usize = 128;

@@ -7,8 +7,10 @@
 //! | `receivers.rs` | a receiver's states, valid or with one rule broken, and calls on them |
 //! | `senders.rs` | a sender's states, valid or with one rule broken |
 //! | `sending.rs` | calls on a sender |
+//! | `lines.rs` | the reader of a serial line: its states, valid or with one rule broken, and calls on them |
 //!
 //! A state is drawn near its limits, and each call near the limits of the state that it meets.
+mod lines;
 mod packets;
 mod receivers;
 mod senders;
@@ -33,7 +35,7 @@ impl Case for Run {
     fn make(seed: u64, index: usize) -> Self {
         let mut draft =
             Draft { random: Random::of(seed, index), world: World::default(), script: vec![], lines: vec![] };
-        match draft.random.below(16) {
+        match draft.random.below(18) {
             // The registers as they are at first: only the first case can ask.
             _ if index == 0 => draft.untouched(),
             0 => draft.read(),
@@ -41,6 +43,7 @@ impl Case for Run {
             2 | 3 => draft.write(),
             4 => draft.timer(),
             5..=8 => draft.receiver(),
+            9 | 10 => draft.line(),
             _ => draft.sender(),
         }
         Self { script: draft.script, lines: draft.lines }
@@ -94,6 +97,7 @@ impl Draft {
         self.ask(Call::Acks { through: 0, nacks: vec![], clock: 0 });
         self.ask(Call::Resend { clock: 0, path: 1 });
         self.ask(Call::Fetch { rank: 0, output: output() });
+        self.ask(Call::Feed(vec![0]));
     }
 
     /// A length around the one that is needed.

@@ -4,11 +4,12 @@ use crate::{
     model::{
         answer::World,
         sender::{IN_FLIGHT, WAITING},
+        serial::LineReader,
         timer::rto,
     },
 };
 
-pub const SHAPES: [&str; 25] = [
+pub const SHAPES: [&str; 30] = [
     "accept: the next to take",
     "accept: in a gap behind it",
     "accept: above highest",
@@ -34,6 +35,11 @@ pub const SHAPES: [&str; 25] = [
     "resend: expired, no new path",
     "resend: fewer than the window",
     "resend: as many as the window",
+    "feed: nothing",
+    "feed: half a length",
+    "feed: not all of a packet",
+    "feed: a packet and no more",
+    "feed: bytes behind a packet",
 ];
 
 /// The cases that this call falls under, if it is not refused.
@@ -97,7 +103,24 @@ pub fn of(world: &World, call: &Call) -> Vec<&'static str> {
                 _ => "resend: as many as the window",
             });
         }
+        Call::Feed(portion) => shapes.push(fed(&world.line, portion)),
         _ => {}
     }
     shapes
+}
+
+/// What a portion that is not refused comes to.
+fn fed(reader: &LineReader, portion: &[u8]) -> &'static str {
+    let (length, rest) = match (reader.phase, portion) {
+        (_, []) => return "feed: nothing",
+        (0, [_]) => return "feed: half a length",
+        (0, [high, low, rest @ ..]) => (u64::from(*high) * 256 + u64::from(*low), rest.len() as u64),
+        (1, [low, rest @ ..]) => (u64::from(reader.high) * 256 + u64::from(*low), rest.len() as u64),
+        _ => (reader.size.saturating_sub(reader.there), portion.len() as u64),
+    };
+    match rest {
+        rest if rest < length => "feed: not all of a packet",
+        rest if rest == length => "feed: a packet and no more",
+        _ => "feed: bytes behind a packet",
+    }
 }

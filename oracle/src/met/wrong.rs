@@ -23,6 +23,9 @@ pub fn of(world: &World, call: &Call) -> Option<(&'static str, &'static str)> {
             };
             ("submit", vec![which(sending::STATES, 0), which(sending::SIZES, 1)])
         }
+        Call::Feed(portion) => {
+            ("line", vec![world.line.broken(), world.line.wrong(&world.line_buffer), world.line.unfit(portion)])
+        }
         Call::Send { clock, .. } => ("sender", clocked(sender_store, *clock)),
         Call::Acks { clock, .. } | Call::Resend { clock, .. } => ("sender", clocked(None, *clock)),
         _ => return None,

@@ -4,7 +4,9 @@ use super::{
     packet::{self, signature_length},
     receiver::{self, Receiver},
     sender::{self, Place, Sender},
-    sending, timer,
+    sending,
+    serial::{self, LineReader},
+    timer,
     write::write,
     Refusal,
 };
@@ -20,11 +22,20 @@ pub struct World {
     pub receiver_store: Vec<u8>,
     pub sender: Sender,
     pub sender_store: Vec<u8>,
+    pub line: LineReader,
+    pub line_buffer: Vec<u8>,
 }
 
 impl Default for World {
     fn default() -> Self {
-        Self { receiver: receiver::UNUSABLE, receiver_store: vec![], sender: sender::UNUSABLE, sender_store: vec![] }
+        Self {
+            receiver: receiver::UNUSABLE,
+            receiver_store: vec![],
+            sender: sender::UNUSABLE,
+            sender_store: vec![],
+            line: LineReader::default(),
+            line_buffer: vec![],
+        }
     }
 }
 
@@ -62,6 +73,7 @@ impl World {
             Call::Accept { .. } | Call::Take(_) | Call::Acknowledge { .. } => self.receiver_call(call),
             Call::Begin { .. } | Call::SetSender(_) | Call::SetSenderStore(_) => self.sender_set(call),
             Call::Submit { .. } => self.submit(call),
+            Call::StartLine(_) | Call::SetLine(_) | Call::SetLineBuffer(_) | Call::Feed(_) => self.line_call(call),
             _ => self.sender_call(call),
         }
     }
@@ -135,6 +147,31 @@ impl World {
         told("submit", &result, &format!("{} {state}", result.unwrap_or(0)))
     }
 
+    fn line_call(&mut self, call: &Call) -> Line {
+        let (reader, buffer) = (&mut self.line, &mut self.line_buffer);
+        match call {
+            Call::StartLine(lent) => {
+                *buffer = lent.bytes();
+                *reader = LineReader::start(buffer);
+                plain(format!("line {}", line_line(reader)))
+            }
+            Call::SetLine(given) => {
+                *reader = *given;
+                plain(format!("reader {}", line_line(reader)))
+            }
+            Call::SetLineBuffer(lent) => {
+                *buffer = lent.bytes();
+                plain(format!("buffer {} {}", lent.length, checksum(buffer)))
+            }
+            Call::Feed(portion) => {
+                let result = serial::feed(reader, portion, buffer);
+                let (packet, used) = result.as_ref().map_or((0, 0), |heard| (heard.packet, heard.used));
+                told("feed", &result, &format!("{packet} {used} {} {}", line_line(reader), checksum(buffer)))
+            }
+            _ => unreachable!("no call of a line"),
+        }
+    }
+
     fn sender_call(&mut self, call: &Call) -> Line {
         let (sender, store) = (&mut self.sender, &self.sender_store);
         match call {
@@ -194,6 +231,11 @@ fn receiver_line(receiver: &Receiver) -> String {
         write!(line, " {i} {}", receiver.marks[i]).unwrap();
     }
     line
+}
+
+/// ROOM PHASE HIGH SIZE THERE
+fn line_line(reader: &LineReader) -> String {
+    format!("{} {} {} {} {}", reader.room, reader.phase, reader.high, reader.size, reader.there)
 }
 
 /// CHUNK COUNT NEXT WINDOW SAMPLED RTT DEVIATION ARMED AT CLOCK N I NUMBER LENGTH SENT MARK ..

@@ -8,6 +8,7 @@
 //! | `receiver.rs`, `ack.rs` | "Receiver", "Acknowledgement" |
 //! | `timer.rs` | "Sender": timer and window |
 //! | `sender.rs`, `sending.rs` | "Sender": the state and its rules; the calls |
+//! | `serial.rs` | document 02, [7]: packets over a serial line |
 //! | `answer.rs`, `script.rs` | no part of it: the lines and scripts of docs/DRIVE.md |
 //! | `hand.rs` | "Numbers to check by hand" |
 //!
@@ -21,6 +22,7 @@ pub mod receiver;
 pub mod script;
 pub mod sender;
 pub mod sending;
+pub mod serial;
 pub mod timer;
 pub mod write;
 

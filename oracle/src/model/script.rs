@@ -1,5 +1,5 @@
 //! A script read back into its calls (docs/DRIVE.md), so that `oracle model answer` can stand where our program does.
-use super::{answer::World, receiver::Receiver, sender::Place, write::Fields};
+use super::{answer::World, receiver::Receiver, sender::Place, serial::LineReader, write::Fields};
 use crate::calls::{Buffer, Call, SenderRecord};
 
 /// The lines for a whole script.
@@ -86,8 +86,17 @@ impl Rest<'_> {
             b'c' => Call::Acks { through: self.u32()?, nacks: self.numbers()?, clock: self.number(8)? },
             b'e' => Call::Resend { clock: self.number(8)?, path: self.u8()? },
             b'h' => Call::Fetch { rank: self.u32()?, output: self.output()? },
+            b'L' => Call::StartLine(self.output()?),
+            b'I' => Call::SetLine(self.line()?),
+            b'F' => Call::SetLineBuffer(self.output()?),
+            b'i' => Call::Feed(self.bytes(70_000)?),
             _ => return None,
         })
+    }
+
+    fn line(&mut self) -> Option<LineReader> {
+        let (room, phase, high) = (self.number(8)?, self.u32()?, self.u32()?);
+        Some(LineReader { room, phase, high, size: self.number(8)?, there: self.number(8)? })
     }
 
     fn numbers(&mut self) -> Option<Vec<u32>> {

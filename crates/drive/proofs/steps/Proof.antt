@@ -4,10 +4,10 @@ use Rattle.drive.proofs.steps.Statement.{statement}
 use Rattle.drive.proofs.steps.Tie as tie
 
 abbrev Inv-loop : tie.InvT-loop
-Inv-loop bank₀ given₀ out₀ received₀ sent₀ turns₀ bank given out received sent turns = Unit {0}
+Inv-loop bank₀ given₀ out₀ received₀ sent₀ line₀ turns₀ bank given out received sent line turns = Unit {0}
 
 abbrev μ-loop : tie.MeasureT-loop
-μ-loop bank₀ given₀ out₀ received₀ sent₀ turns₀ bank given out received sent turns = turns
+μ-loop bank₀ given₀ out₀ received₀ sent₀ line₀ turns₀ bank given out received sent line turns = turns
 
 loop-holds : tie.Need-loop-holds Inv-loop μ-loop
 loop-holds c = search needs

@@ -5,10 +5,10 @@ use Rattle.drive_format.proofs.take.call.Statement.{statement}
 use Rattle.drive_format.proofs.take.call.Tie as tie
 
 abbrev Inv-loop : tie.InvT-loop
-Inv-loop bank₀ given₀ out₀ received₀ sent₀ letter asked i₀ bank given out received sent i = i ≤ 16
+Inv-loop bank₀ given₀ out₀ received₀ sent₀ line₀ letter asked i₀ bank given out received sent line i = i ≤ 16
 
 abbrev μ-loop : tie.MeasureT-loop
-μ-loop bank₀ given₀ out₀ received₀ sent₀ letter asked i₀ bank given out received sent i = 16 - i
+μ-loop bank₀ given₀ out₀ received₀ sent₀ line₀ letter asked i₀ bank given out received sent line i = 16 - i
 
 begin-requires : tie.Need-begin-requires Inv-loop μ-loop
 begin-requires c κs = search needs

@@ -1,0 +1,2 @@
+-- That the promise determines its result (Determined).
+pub mod Determined
