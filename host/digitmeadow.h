@@ -10,7 +10,7 @@
  * NO ACK are only reported: what they mean is the host's. A plain acknowledgement has the number 0, which accept refuses with 13. This header
  * is for C11, compiled by GCC or Clang.
  *
- * A refusal is a number, 1 to 25, from document 01's table, and 0 is none. A refused call changes nothing that it was lent. */
+ * A refusal is a number, 1 to 25 from document 01's table or 30 of a serial line, and 0 is none. A refused call changes nothing that it was lent. */
 #ifndef DIGITMEADOW_H
 #define DIGITMEADOW_H
 
@@ -27,6 +27,24 @@ struct digitmeadow_receiver {
     digitmeadow_u32 next;        /* the next number to take */
     digitmeadow_u32 highest;     /* the highest number accepted, or the one that the start came after */
     digitmeadow_u16 marks[512];  /* a slot's mark: 0 where it is free, the held payload's length and one where it is not */
+};
+
+/* A reader of packets on a serial line, each behind its length, two bytes, the high one first. The host keeps it and hands it in and out by value, beside
+ * one buffer. Made by hand or damaged, it is refused with 11 unless a start and calls could leave it. */
+struct digitmeadow_line {
+    digitmeadow_size room;       /* the buffer's length at the start */
+    digitmeadow_u32 phase;       /* 0: nothing is there; 1: half a length; 2: a length, and fewer bytes than that; 3: stopped */
+    digitmeadow_u32 high;        /* phase 1: the high byte of the length, else 0 */
+    digitmeadow_size size;       /* phase 2: the length, else 0 */
+    digitmeadow_size there;      /* phase 2: how many of its bytes stand at the buffer's front, else 0 */
+};
+
+/* What a portion came to. */
+struct digitmeadow_heard {
+    struct digitmeadow_line reader;  /* the reader from now on */
+    digitmeadow_u32 refusal;
+    digitmeadow_size length;     /* a packet of this length stands at the buffer's front; 0 where more is wanted */
+    digitmeadow_size used;       /* how many bytes of the portion were used: the others are offered again */
 };
 
 /* A refusal's number, or 0 and how many bytes were copied or written. */
@@ -62,6 +80,8 @@ struct digitmeadow_fields {
 _Static_assert(sizeof(struct digitmeadow_receiver) == 1036, "a receiver's state is 1,036 bytes");
 _Static_assert(sizeof(struct digitmeadow_counted) == 16, "an answer with a count is 16 bytes");
 _Static_assert(sizeof(struct digitmeadow_fields) == 104, "a packet's fields are 104 bytes");
+_Static_assert(sizeof(struct digitmeadow_line) == 32, "a line's reader is 32 bytes");
+_Static_assert(sizeof(struct digitmeadow_heard) == 56, "what a portion came to is 56 bytes");
 
 /* Reads a packet: every field, or refusal 1 to 6. Any bytes are answered. */
 struct digitmeadow_fields digitmeadow_read(const digitmeadow_u8 *packet, digitmeadow_size length);
@@ -87,5 +107,14 @@ struct digitmeadow_counted digitmeadow_take(
  * which 1,044 bytes are always enough. Refused with 11, 10, or 7 where the output is shorter than this acknowledgement. */
 struct digitmeadow_counted digitmeadow_acknowledge(
     const struct digitmeadow_receiver *r, digitmeadow_u32 send_stream_id, digitmeadow_u32 recv_stream_id, digitmeadow_u8 *output, digitmeadow_size output_length);
+
+/* Starts a reader of a serial line over a buffer of any length, whatever is in it. A packet that is longer than the buffer is refused. */
+struct digitmeadow_line digitmeadow_line_start(const digitmeadow_u8 *buffer, digitmeadow_size buffer_length);
+
+/* Feeds a reader a portion of any length, none too. It stops at the first full packet, which then stands at the buffer's front until the next call. Refused with 11;
+ * with 10 where the buffer has another length than at the start; or with 30 where a length on the line is under 22 or above the buffer: then, and at every call until
+ * the reader is started again. A refused call uses nothing and leaves the buffer; only with 30 is the reader that comes back another, and stopped. */
+struct digitmeadow_heard digitmeadow_line_feed(
+    struct digitmeadow_line r, const digitmeadow_u8 *portion, digitmeadow_size portion_length, digitmeadow_u8 *buffer, digitmeadow_size buffer_length);
 
 #endif

@@ -16,6 +16,12 @@ use Rattle.host_numbers.specs.declared.Counted.{Counted}
 use Rattle.host_numbers.specs.declared.Fields.{Fields}
 use Rattle.host_numbers.specs.Numbers.{Hosted, hosted, hostedStart, begun, answered, counted, HostedAck, hostedAck, wrote}
 use Rattle.host_numbers.specs.Fields.{hostedRead}
+use Rattle.serial_state.specs.Start.{lineStart}
+use Rattle.serial_state.specs.declared.LineReader.{LineReader}
+use Rattle.serial_feed.specs.Feed.{feedOf}
+use Rattle.host_serial.specs.Line.{hostedFeed, hostFed}
+use Rattle.host_serial.specs.declared.LineHeard.{LineHeard}
+use Rattle.host_serial.proofs.Determined.{feed-determined}
 
 pub digitmeadow-read-determined : (packet : List ℕ) (a b : Fields) → a ≡ hostedRead (readOf packet) → b ≡ hostedRead (readOf packet) → a ≡ b
 digitmeadow-read-determined packet a b p q = determined p q
@@ -46,3 +52,10 @@ pub digitmeadow-acknowledge-determined : (r : Receiver) (send recv : StreamId) (
 digitmeadow-acknowledge-determined r send recv output a b x y p q =
     let e = determined p q in
     (ap (λ (o : HostedAck). o .answer) e, ap (λ (o : HostedAck). o .output) e)
+
+pub digitmeadow-line-start-determined : (buffer : List ℕ) (a b : LineReader) → a ≡ lineStart buffer → b ≡ lineStart buffer → a ≡ b
+digitmeadow-line-start-determined buffer a b p q = determined p q
+
+pub digitmeadow-line-feed-determined : (r : LineReader) (portion buffer : List ℕ) (a b : LineHeard) (x y : List ℕ)
+    → hostFed a x ≡ hostedFeed (feedOf r portion buffer) → hostFed b y ≡ hostedFeed (feedOf r portion buffer) → (a ≡ b) × (x ≡ y)
+digitmeadow-line-feed-determined r portion buffer a b x y p q = feed-determined r portion buffer a b x y p q

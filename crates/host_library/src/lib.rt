@@ -1,5 +1,5 @@
-// The receiving half of a stream for hosts in C, as a static library: reading a packet, and a receiver that is changed in
-// place. Refusals are document 01's numbers, and 0 is none; a slice is a pointer and a length. The header is host/digitmeadow.h.
+// The receiving half of a stream for hosts in C, as a static library: reading a packet, a receiver that is changed in
+// place, and a reader of packets on a serial line. Refusals are document 01's numbers, and 0 is none; a slice is a pointer and a length. The header is host/digitmeadow.h.
 // What an answer is in numbers is in `host_numbers`.
 ghost use mathlib.Core.Path.{_≡_};
 ghost use lib.ListN.{length};
@@ -10,10 +10,15 @@ ghost use Rattle.receiver_calls.specs.Take.{takeOf};
 ghost use Rattle.receiver_ack.specs.Acknowledge.{acknowledgeOf};
 ghost use Rattle.host_numbers.specs.Numbers.{hosted, hostedStart, begun, answered, counted, hostedAck, wrote};
 ghost use Rattle.host_numbers.specs.Fields.{hostedRead};
+ghost use Rattle.serial_state.specs.Start.{lineStart};
+ghost use Rattle.serial_feed.specs.Feed.{feedOf};
+ghost use Rattle.host_serial.specs.Line.{hostedFeed, hostFed};
 use host_numbers::Counted;
 use host_numbers::Fields;
+use host_serial::LineHeard;
 use packet_read::Reading;
 use receiver_state::Receiver;
+use serial_state::LineReader;
 use terms::SeqNo;
 
 // Reads a packet: `packet_read::read`.
@@ -73,4 +78,24 @@ pub extern "C" fn digitmeadow_acknowledge(
     ensures { λ c. ⌜ wrote c (now (output .exit)) ≡ hostedAck (acknowledgeOf (now (r .entry)) (record { 0 = send }) (record { 0 = recv }) (now (output .entry))) ⌝ }
 {
     host_numbers::acknowledgement(*r, send, recv, output)
+}
+
+// Starts a reader of packets on a serial line, over a buffer of any length: `serial_state::start`.
+#[no_mangle]
+pub extern "C" fn digitmeadow_line_start(buffer: &[u8]) -> LineReader
+    ensures { λ r. ⌜ r ≡ lineStart (now (buffer .entry)) ⌝ }
+{
+    serial_state::start(buffer)
+}
+
+// Feeds it a portion: `serial_feed::feed`. The reader is five numbers, and comes back with the answer.
+#[no_mangle]
+pub extern "C" fn digitmeadow_line_feed(
+    r: LineReader,
+    portion: &[u8],
+    buffer: &mut [u8],
+) -> LineHeard
+    ensures { λ h. ⌜ hostFed h (now (buffer .exit)) ≡ hostedFeed (feedOf r (now (portion .entry)) (now (buffer .entry))) ⌝ }
+{
+    host_serial::feed(r, portion, buffer)
 }
