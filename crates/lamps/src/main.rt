@@ -54,6 +54,7 @@ fn compare(original: &Image, shown: &Image, filled: usize) {
         say::text(b" bytes, the same as the original, byte for byte.\n");
     } else {
         say::text(b" bytes, and another than the original.\n");
+        say::fault(b"another image\n");
     }
 }
 
