@@ -17,7 +17,7 @@ use Rattle.sender_state.specs.Answers.{Outcome}
 use Rattle.sender_state.specs.Rules.{rules}
 use Rattle.sender_state.specs.declared.Sender.{Sender}
 use Rattle.sender_state.proofs.Facts.{Ruled}
-use Rattle.sender_state.specs.Numbers.{numbersAt, markedWith}
+use Rattle.sender_state.specs.Numbers.{numbersWhere, markedWith}
 use Rattle.sender_acks.specs.Steps.{Flags, Measures}
 use Rattle.sender_state.specs.Steps.{Tidy}
 use Rattle.sender_acks.specs.Acks.{ackedAt, ackedOf, acksRefusal, sampleOf, timedBy, grownBy, freedBy, acksLeave, acksOf}
@@ -56,14 +56,14 @@ module _ (s : Sender) (row : length (s .numbers) ≡ 192) (table : length (s .ma
       }
 
   pub acks-made : (clock : ℕ) (m : Measured)
-      → Measures (sampleOf (s .numbers) (s .sent) clock) (s .timing) (s .window) (numbersAt (s .numbers) (s .next .0) (markedWith 1 flags)) m
+      → Measures (sampleOf (s .numbers) (s .sent) clock) (s .timing) (s .window) (numbersWhere (s .numbers) (s .next .0) (markedWith 1 flags)) m
       → (state : Sender) → state ≡ freedBy s (m .timing) (m .window) clock (markedWith 1 flags)
       → _≡_ {A = Outcome} (record { says = values (m .count ∷ []); state = state; lent = [] })
       (record { says = values (length (ackedOf s through nacks) ∷ []); state = acksLeave s through nacks clock; lent = [] })
   acks-made clock m f state e = rw (e, f .times, f .grows, f .counts) (ap by flags-same) where
     by : (ℕ → Bool) → Outcome
     by gone =
-        let l = numbersAt (s .numbers) (s .next .0) gone in
+        let l = numbersWhere (s .numbers) (s .next .0) gone in
         record {
           says = values (length l ∷ []);
           state = freedBy s (timedBy (sampleOf (s .numbers) (s .sent) clock) (s .timing) l) (grownBy (s .window) l) clock gone;

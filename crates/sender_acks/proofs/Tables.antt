@@ -16,7 +16,7 @@ use Rattle.timer.specs.Window.{grownOf}
 use Rattle.timer.specs.declared.Timing.{Timing}
 use Rattle.sender_state.specs.Steps.{leastOf, Tidy}
 use Rattle.sender_state.specs.Table.{_!_, oneIf, placeOf}
-use Rattle.sender_state.specs.Numbers.{run, numbersAt, markedWith}
+use Rattle.sender_state.specs.Numbers.{run, numbersWhere, markedWith}
 use Rattle.sender_acks.specs.Acks.{timedBy, grownBy}
 use Rattle.sender_acks.specs.Steps.{Flags, Measures}
 use Rattle.sender_acks.specs.declared.Measured.{Measured}
@@ -48,9 +48,9 @@ module _ (p : ℕ → Bool) where
 pub record Measuring (numbers flags : List ℕ) (sample : ℕ → ℕ) (next : ℕ) (timing : Timing) (window : ℕ) (m : Measured) (low : ℕ) : Type 0 where
   pub rest : List ℕ
   pub front : Ahead (λ n. markedWith 1 flags (placeOf numbers n)) next low rest
-  pub times : timedBy sample (m .timing) rest ≡ timedBy sample timing (numbersAt numbers next (markedWith 1 flags))
-  pub grows : grownBy (m .window) rest ≡ grownBy window (numbersAt numbers next (markedWith 1 flags))
-  pub counts : m .count + length rest ≡ length (numbersAt numbers next (markedWith 1 flags))
+  pub times : timedBy sample (m .timing) rest ≡ timedBy sample timing (numbersWhere numbers next (markedWith 1 flags))
+  pub grows : grownBy (m .window) rest ≡ grownBy window (numbersWhere numbers next (markedWith 1 flags))
+  pub counts : m .count + length rest ≡ length (numbersWhere numbers next (markedWith 1 flags))
   pub few : m .count ≤ low
 
 module _ (numbers flags : List ℕ) (sample : ℕ → ℕ) (next : ℕ) (timing : Timing) (window : ℕ) where
@@ -59,11 +59,11 @@ module _ (numbers flags : List ℕ) (sample : ℕ → ℕ) (next : ℕ) (timing 
   measure-start tidy low e =
       let z : next - 0 ≡ next = omega arith in
       record {
-        rest = numbersAt numbers next (markedWith 1 flags);
+        rest = numbersWhere numbers next (markedWith 1 flags);
         front = rw e (rw z at (ahead numbers flags 1 next tidy 0 (omega arith)));
         times = refl;
         grows = refl;
-        counts = zero-add (length (numbersAt numbers next (markedWith 1 flags)));
+        counts = zero-add (length (numbersWhere numbers next (markedWith 1 flags)));
         few = omega arith;
       }
 
@@ -83,7 +83,7 @@ module _ (numbers flags : List ℕ) (sample : ℕ → ℕ) (next : ℕ) (timing 
       }
 
   pub measure-end : (m : Measured) (low : ℕ) → Measuring numbers flags sample next timing window m low → low ≡ 4294967295
-      → Measures sample timing window (numbersAt numbers next (markedWith 1 flags)) m
+      → Measures sample timing window (numbersWhere numbers next (markedWith 1 flags)) m
   measure-end m low r e =
       let is = r .front .none e in
       record {

@@ -14,19 +14,19 @@ use Rattle.sender_state.specs.Table.{_!_, isFlying, differs, placeOf, replaced}
 use Rattle.sender_state.specs.Rules.{rules, countsFit, clockWrong}
 use Rattle.sender_state.specs.Answers.{Outcome, saidTally}
 use Rattle.sender_state.specs.declared.Sender.{Sender}
-use Rattle.sender_state.specs.Numbers.{numbersAt}
+use Rattle.sender_state.specs.Numbers.{numbersWhere}
 use Rattle.sender_acks.specs.declared.Acked.{Acked}
 
 -- a packet is acknowledged: in flight, its number at most ack-through and not NACKed
-abbrev pub acknowledged : ℕ → List ℕ → ℕ → ℕ → Bool
-acknowledged through nacks number mark = isFlying mark && (leb number through && all (differs number) nacks)
+abbrev pub isAcked : ℕ → List ℕ → ℕ → ℕ → Bool
+isAcked through nacks number mark = isFlying mark && (leb number through && all (differs number) nacks)
 
 abbrev pub ackedAt : List ℕ → List ℕ → ℕ → List ℕ → ℕ → Bool
-ackedAt numbers marks through nacks i = acknowledged through nacks (numbers ! i) (marks ! i)
+ackedAt numbers marks through nacks i = isAcked through nacks (numbers ! i) (marks ! i)
 
 -- the numbers that it takes out of flight, ascending
 abbrev pub ackedOf : Sender → ℕ → List ℕ → List ℕ
-ackedOf s through nacks = numbersAt (s .numbers) (s .next .0) (ackedAt (s .numbers) (s .marks) through nacks)
+ackedOf s through nacks = numbersWhere (s .numbers) (s .next .0) (ackedAt (s .numbers) (s .marks) through nacks)
 
 -- what keeps acks from being done, by document 01's numbers in its order
 unfoldable pub acksRefusal : Sender → ℕ → ℕ → ℕ → Said

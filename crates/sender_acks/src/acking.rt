@@ -17,14 +17,14 @@ ghost use Rattle.sender_state.specs.Rules.{rules};
 ghost use Rattle.timer.specs.Timer.{sampledOf};
 ghost use Rattle.timer.specs.Window.{grownOf};
 ghost use Rattle.sender_state.specs.Table.{oneIf};
-ghost use Rattle.sender_state.specs.Numbers.{numbersAt, markedWith};
+ghost use Rattle.sender_state.specs.Numbers.{numbersWhere, markedWith};
 ghost use Rattle.sender_state.specs.Steps.{Tidy};
 ghost use Rattle.sender_acks.specs.Steps.{Flags, Measures};
-ghost use Rattle.sender_acks.specs.Acks.{acknowledged, ackedAt, acksRefusal, sampleOf, freedBy, ackedOf, acksLeave, ackedOut};
+ghost use Rattle.sender_acks.specs.Acks.{isAcked, ackedAt, acksRefusal, sampleOf, freedBy, ackedOf, acksLeave, ackedOut};
 
 // 1 where a packet is acknowledged. The NACKs are searched only for a number in flight that ack-through reaches.
 fn acked_flag(number: u32, mark: u32, through: u32, nacks: &[u32]) -> u32
-    ensures { λ r. ⌜ r ≡ oneIf (acknowledged through (now (nacks .entry)) number mark) ⌝ }
+    ensures { λ r. ⌜ r ≡ oneIf (isAcked through (now (nacks .entry)) number mark) ⌝ }
 {
     if mark != 2 {
         return 0;
@@ -83,7 +83,7 @@ fn measure<'a>(
 ) -> Measured
     requires { ⌜ Tidy (now numbers) (now flags) 1 next × (length (now sent) ≡ 192) ⌝ }
     ensures { λ r. ⌜ Measures (sampleOf (now (numbers .entry)) (now (sent .entry)) clock) timing window
-        (numbersAt (now (numbers .entry)) next (markedWith 1 (now (flags .entry)))) r ⌝ }
+        (numbersWhere (now (numbers .entry)) next (markedWith 1 (now (flags .entry)))) r ⌝ }
 {
     let mut m = Measured {
         timing: timing,

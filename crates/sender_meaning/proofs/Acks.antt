@@ -22,6 +22,7 @@ use Rattle.sender_resend.specs.Resend.{isIn}
 use Rattle.sender_state.proofs.Facts.{clock-fair}
 use Rattle.sender_meaning.specs.Meaning.{markOf, standing, doesFly, Sound}
 use Rattle.sender_meaning.specs.Steps.{isFair, isNamed, ackedAs}
+use Rattle.sender_meaning.specs.Changes.{LeavesFlight}
 use Rattle.sender_meaning.proofs.Counts.{by-bool, fair-rung, run-has, run-ascending}
 use Rattle.sender_meaning.proofs.Stands.{facts, marked-is, flies-told, counts-fit}
 use Rattle.sender_meaning.proofs.Moves.{later-fits}
@@ -49,18 +50,6 @@ acked-is s store sound through nacks n =
 -- ascending, so that each of them counts once
 pub acked-ascending : (s : Sender) (through : ℕ) (nacks : List ℕ) → ascending (ackedOf s through nacks) ≡ true
 acked-ascending s through nacks = run-ascending (λ n. ackedAt (s .numbers) (s .marks) through nacks (placeOf (s .numbers) n)) (s .next .0) 0
-
--- what acks that are done change
-pub record Acknowledges (s : Sender) (through : ℕ) (nacks : List ℕ) (clock : ℕ) (store given : List ℕ) : Type 0 where
-  pub gives : given ≡ length (ackedOf s through nacks) ∷ []
-  pub now-is : (n : ℕ) → standing (acksOf s through nacks clock .state) store n ≡ ackedAs through nacks n (standing s store n)
-  pub next-is : acksOf s through nacks clock .state .next ≡ s .next
-  pub chunk-is : acksOf s through nacks clock .state .chunk ≡ s .chunk
-  pub count-is : acksOf s through nacks clock .state .count ≡ s .count
-  pub clock-is : acksOf s through nacks clock .state .clock ≡ clock
-  pub later : s .clock ≤ clock
-  pub within : through ≤ s .next .0
-  pub few : length nacks ≤ 255
 
 module _ (s : Sender) (through : ℕ) (nacks : List ℕ) (clock : ℕ) where
   -- what it leaves, once it is known whether something keeps it from being done
@@ -122,7 +111,7 @@ module _ (s : Sender) (through : ℕ) (nacks : List ℕ) (clock : ℕ) where
           freed-means s store sound through nacks
           (timedBy (sampleOf (s .numbers) (s .sent) clock) (s .timing) (ackedOf s through nacks)) (grownBy (s .window) (ackedOf s through nacks)) clock leave-sound
 
-    pub acks-changes : (given : List ℕ) → acksOf s through nacks clock .says ≡ values given → Acknowledges s through nacks clock store given
+    pub acks-changes : (given : List ℕ) → acksOf s through nacks clock .says ≡ values given → LeavesFlight s through nacks clock store given
     acks-changes given done =
         judged
         (λ m q p. let z : _≡_ {A = ℕ} 0 1 = cc in absurd (omega arith))

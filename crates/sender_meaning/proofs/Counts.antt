@@ -15,7 +15,7 @@ use Rattle.terms.proofs.Laws.{case, rung, and-both}
 use Rattle.terms.specs.Answers.{Said, refusal}
 use Rattle.receiver_ack.specs.Missing.{ascending}
 use Rattle.sender_state.specs.Table.{_!_, countOf, placeOf, replaced}
-use Rattle.sender_state.specs.Numbers.{run, numbersAt, markedWith}
+use Rattle.sender_state.specs.Numbers.{run, numbersWhere, markedWith}
 use Rattle.sender_resend.specs.Resend.{isEmpty, isIn}
 use Rattle.sender_state.proofs.Runs.{beyond, run-none, in-run, not-in}
 use Rattle.sender_state.proofs.Search.{place-is}
@@ -77,7 +77,7 @@ module _ (p q : ℕ → Bool) (x : ℕ) (others : (n : ℕ) → (n ≡ x → ⊥
 pub marked-count : (wanted next : ℕ) → 1 ≤ wanted → (numbers marks : List ℕ) → length numbers ≡ length marks
     → ((i : ℕ) → i < length marks → marks ! i ≡ wanted → numbers ! i < next)
     → ((i j : ℕ) → i < length marks → j < length marks → (i ≡ j → ⊥) → marks ! i ≡ wanted → numbers ! i ≡ numbers ! j → ⊥)
-    → length (numbersAt numbers next (markedWith wanted marks)) ≡ countOf wanted marks
+    → length (numbersWhere numbers next (markedWith wanted marks)) ≡ countOf wanted marks
 unfolding run
 marked-count wanted next some [] [] long low lone =
     ap length (rw (sub-zero next) at (run-none (λ n. eqb 0 wanted) 0 next (λ m a b. ne-eqb 0 wanted (λ e. omega arith))))

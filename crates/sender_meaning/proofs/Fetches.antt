@@ -16,22 +16,14 @@ use Rattle.terms.specs.Answers.{refusal, values}
 use Rattle.sender_state.specs.Table.{_!_, placeOf}
 use Rattle.sender_state.specs.Rules.{rules, sizesFit}
 use Rattle.sender_state.specs.declared.Sender.{Sender}
-use Rattle.sender_state.specs.Numbers.{inFlight, sizeOf, packetOf}
+use Rattle.sender_state.specs.Numbers.{inFlight, sizeOf, storedPacket}
 use Rattle.sender_send.specs.Fetch.{fetchSaid, fetchOf}
 use Rattle.sender_send.proofs.Ranks.{Ranked, ranked-of}
 use Rattle.sender_meaning.specs.Meaning.{flies, standing, Sound}
 use Rattle.sender_meaning.specs.Steps.{isFair}
+use Rattle.sender_meaning.specs.Changes.{Fetched}
 use Rattle.sender_meaning.proofs.Counts.{fair-rung}
 use Rattle.sender_meaning.proofs.Stands.{flies-at, stands-at, place-long}
-
--- what a fetch that is done gives
-pub record Fetched (s : Sender) (rank : ℕ) (store output given : List ℕ) : Type 0 where
-  pub packet : List ℕ
-  pub sent : ℕ
-  pub inside : rank < length (inFlight s)
-  pub is : standing s store (inFlight s ! rank) ≡ flies packet sent
-  pub gives : given ≡ length packet ∷ []
-  pub output-is : fetchOf s rank store output .output ≡ packet atFrontOf output
 
 module _ (s : Sender) (rank : ℕ) (store output : List ℕ) where
   fetch-is : fetchSaid s rank (length store) (length output) ≡ fetchOf s rank store output .says
@@ -48,7 +40,7 @@ module _ (s : Sender) (rank : ℕ) (store output : List ℕ) where
       there : Ranked s (sound .numbers-long) (sound .marks-long) (omega (arith, sound .width)) 2 rank (inFlight s ! rank)
       there = ranked-of s (sound .numbers-long) (sound .marks-long) (omega (arith, sound .width)) 2 rank (omega arith) inside
 
-      packet-long : length (packetOf s store (inFlight s ! rank)) ≡ sizeOf s (inFlight s ! rank)
+      packet-long : length (storedPacket s store (inFlight s ! rank)) ≡ sizeOf s (inFlight s ! rank)
       packet-long = place-long s store sound (placeOf (s .numbers) (inFlight s ! rank)) (there .place) (λ z. omega (arith, there .marked))
 
     pub fetch-gives : (given : List ℕ) → fetchOf s rank store output .says ≡ values given → Fetched s rank store output given
@@ -62,7 +54,7 @@ module _ (s : Sender) (rank : ℕ) (store output : List ℕ) where
         let place = placeOf (s .numbers) (inFlight s ! rank) in
         let full : s .marks ! place ≡ 0 → ⊥ = λ z. omega (arith, there inside .marked) in
         record {
-          packet = packetOf s store (inFlight s ! rank);
+          packet = storedPacket s store (inFlight s ! rank);
           sent = s .sent ! place;
           inside = inside;
           is = ap (standing s store) (sym (there inside .has)) ∙ stands-at s store sound place (there inside .place) full ∙ flies-at s store place (there inside .marked);
@@ -73,8 +65,8 @@ module _ (s : Sender) (rank : ℕ) (store output : List ℕ) where
     -- its answer in a sound state
     pub fetch-answer : fetchOf s rank store output .says
         ≡ (refusal 17 when leb (length (inFlight s)) rank else
-        refusal 7 when ltb (length output) (length (packetOf s store (inFlight s ! rank))) else
-        values (length (packetOf s store (inFlight s ! rank)) ∷ []))
+        refusal 7 when ltb (length output) (length (storedPacket s store (inFlight s ! rank))) else
+        values (length (storedPacket s store (inFlight s ! rank)) ∷ []))
     unfolding fetchSaid
     fetch-answer =
         sym fetch-is ∙ rw (sound .keeps, sound .fits)
@@ -88,4 +80,4 @@ module _ (s : Sender) (rank : ℕ) (store output : List ℕ) where
     fetch-fair =
         rw fetch-answer
         (fair-rung 17 (leb (length (inFlight s)) rank) _ refl
-        (fair-rung 7 (ltb (length output) (length (packetOf s store (inFlight s ! rank)))) _ refl refl))
+        (fair-rung 7 (ltb (length output) (length (storedPacket s store (inFlight s ! rank)))) _ refl refl))

@@ -26,19 +26,10 @@ use Rattle.sender_state.proofs.Replaced.{replaced-length, replaced-at}
 use Rattle.sender_state.proofs.Facts.{clock-fair}
 use Rattle.sender_meaning.specs.Meaning.{standing, Sound}
 use Rattle.sender_meaning.specs.Steps.{isFair, goesAgain, resentAs}
+use Rattle.sender_meaning.specs.Changes.{GoesAgain}
 use Rattle.sender_meaning.proofs.Counts.{by-bool, fair-rung, none-in}
 use Rattle.sender_meaning.proofs.Stands.{facts, counts-fit}
 use Rattle.sender_meaning.proofs.Again.{none-again, expired-flies, idle-none, flies-there, retimed-sound, resent-means}
-
--- what a resend that is done changes
-pub record GoesAgain (s : Sender) (clock : ℕ) (path : Bool) (store given : List ℕ) : Type 0 where
-  pub gives : given ≡ resendCount s clock path ∷ []
-  pub now-is : (n : ℕ) → standing (resendOf s clock path .state) store n ≡ resentAs (goesAgain s clock path) clock n (standing s store n)
-  pub next-is : resendOf s clock path .state .next ≡ s .next
-  pub chunk-is : resendOf s clock path .state .chunk ≡ s .chunk
-  pub count-is : resendOf s clock path .state .count ≡ s .count
-  pub clock-is : resendOf s clock path .state .clock ≡ clock
-  pub later : s .clock ≤ clock
 
 module _ (s : Sender) (clock : ℕ) (path : Bool) where
   -- what it leaves, once it is known whether something keeps it from being done

@@ -20,7 +20,7 @@ use Rattle.timer.proofs.Laws.{rto-most}
 use Rattle.sender_state.specs.Table.{_!_, placeOf}
 use Rattle.sender_state.specs.Rules.{timerFits, clockWrong}
 use Rattle.sender_state.specs.declared.Sender.{Sender}
-use Rattle.sender_state.specs.Numbers.{markedWith, waiting, inFlight, sizeOf, packetOf}
+use Rattle.sender_state.specs.Numbers.{markedWith, waiting, inFlight, sizeOf, storedPacket}
 use Rattle.sender_resend.specs.Resend.{isEmpty}
 use Rattle.sender_send.specs.Send.{sendSaid, armed, departed, sendOf}
 use Rattle.sender_state.proofs.Runs.{run-passes, run-below}
@@ -28,26 +28,10 @@ use Rattle.sender_send.proofs.Outcomes.{Leaves, leaves, send-refused, send-done
 use Rattle.sender_send.proofs.Ranks.{Ranked, ranked-of}
 use Rattle.sender_meaning.specs.Meaning.{waits, standing, doesWait, Sound}
 use Rattle.sender_meaning.specs.Steps.{isFair, sentAs}
+use Rattle.sender_meaning.specs.Changes.{Departs}
 use Rattle.sender_meaning.proofs.Counts.{none-in, fair-rung, run-lowest}
 use Rattle.sender_meaning.proofs.Stands.{place-long, in-flight-count, waits-at, facts, stands-at, waiting-is, waits-told}
 use Rattle.sender_meaning.proofs.Moves.{armed-fits, moved-sound, moved-means}
-
--- what a send that is done changes: the lowest number that waits, of which its packet stands at the output's front, flies from the clock on, and
--- every other number stands as it stood
-pub record Departs (s : Sender) (clock : ℕ) (store output given : List ℕ) : Type 0 where
-  pub told : ℕ
-  pub packet : List ℕ
-  pub gives : given ≡ told ∷ length packet ∷ []
-  pub was : standing s store told ≡ waits packet
-  pub lowest : (n : ℕ) → doesWait (standing s store n) ≡ true → told ≤ n
-  pub output-is : sendOf s clock store output .lent ≡ packet atFrontOf output
-  pub now-is : (n : ℕ) → standing (sendOf s clock store output .state) store n ≡ sentAs told clock n (standing s store n)
-  pub next-is : sendOf s clock store output .state .next ≡ s .next
-  pub chunk-is : sendOf s clock store output .state .chunk ≡ s .chunk
-  pub count-is : sendOf s clock store output .state .count ≡ s .count
-  pub clock-is : sendOf s clock store output .state .clock ≡ clock
-  pub later : s .clock ≤ clock
-  pub room : length (inFlight s) < s .window
 
 module _ (s : Sender) (clock : ℕ) (store output : List ℕ) where
   send-is : sendSaid s clock (length store) (length output) ≡ sendOf s clock store output .says
@@ -63,7 +47,7 @@ module _ (s : Sender) (clock : ℕ) (store output : List ℕ) where
     head-place : Ranked s (sound .numbers-long) (sound .marks-long) (omega (arith, sound .width)) 1 0 (waiting s ! 0)
     head-place = ranked-of s (sound .numbers-long) (sound .marks-long) (omega (arith, sound .width)) 1 0 (omega arith) some
 
-    packet-long : length (packetOf s store (waiting s ! 0)) ≡ sizeOf s (waiting s ! 0)
+    packet-long : length (storedPacket s store (waiting s ! 0)) ≡ sizeOf s (waiting s ! 0)
     packet-long = place-long s store sound (placeOf (s .numbers) (waiting s ! 0)) (head-place .place) (λ z. omega (arith, head-place .marked))
 
   module _ (given : List ℕ) (done : sendOf s clock store output .says ≡ values given) (sound : Sound s store) where
@@ -73,7 +57,7 @@ module _ (s : Sender) (clock : ℕ) (store output : List ℕ) where
     there : Ranked s (sound .numbers-long) (sound .marks-long) (omega (arith, sound .width)) 1 0 (waiting s ! 0)
     there = head-place sound (left .some)
 
-    became : (sendOf s clock store output .state ≡ departed s clock) × (sendOf s clock store output .lent ≡ packetOf s store (waiting s ! 0) atFrontOf output)
+    became : (sendOf s clock store output .state ≡ departed s clock) × (sendOf s clock store output .lent ≡ storedPacket s store (waiting s ! 0) atFrontOf output)
     became = let k = send-done s clock store output given (send-is ∙ done) in (rw k, rw k)
 
     first : (n : ℕ) → doesWait (standing s store n) ≡ true → waiting s ! 0 ≤ n
@@ -98,7 +82,7 @@ module _ (s : Sender) (clock : ℕ) (store output : List ℕ) where
     pub send-changes : Departs s clock store output given
     send-changes = record {
       told = waiting s ! 0;
-      packet = packetOf s store (waiting s ! 0);
+      packet = storedPacket s store (waiting s ! 0);
       gives = let i = left .is in rw (packet-long sound (left .some)) (cc);
       was = ap (standing s store) (sym (there .has)) ∙ stands-at s store sound (placeOf (s .numbers) (waiting s ! 0)) (there .place) (λ z. omega (arith, there .marked))
           ∙ waits-at s store (placeOf (s .numbers) (waiting s ! 0)) (there .marked);
@@ -144,8 +128,8 @@ module _ (s : Sender) (clock : ℕ) (store output : List ℕ) where
       ≡ (refusal 24 when clockWrong (s .clock) clock else
       refusal 17 when isEmpty (waiting s) else
       refusal 22 when leb (s .window) (length (inFlight s)) else
-      refusal 7 when ltb (length output) (length (packetOf s store (waiting s ! 0))) else
-      values ((waiting s ! 0) ∷ length (packetOf s store (waiting s ! 0)) ∷ []))
+      refusal 7 when ltb (length output) (length (storedPacket s store (waiting s ! 0))) else
+      values ((waiting s ! 0) ∷ length (storedPacket s store (waiting s ! 0)) ∷ []))
   unfolding sendSaid
   send-answer sound =
       sym send-is ∙ rw (sound .keeps, sound .fits, in-flight-count s store sound)
@@ -162,4 +146,4 @@ module _ (s : Sender) (clock : ℕ) (store output : List ℕ) where
       (fair-rung 24 (clockWrong (s .clock) clock) _ refl
       (fair-rung 17 (isEmpty (waiting s)) _ refl
       (fair-rung 22 (leb (s .window) (length (inFlight s))) _ refl
-      (fair-rung 7 (ltb (length output) (length (packetOf s store (waiting s ! 0)))) _ refl refl))))
+      (fair-rung 7 (ltb (length output) (length (storedPacket s store (waiting s ! 0)))) _ refl refl))))

@@ -14,7 +14,7 @@ use Rattle.sender_state.specs.Table.{_!_, isWaiting, isFlying, countOf, placeOf
 use Rattle.sender_state.specs.Rules.{countsFit, sizesFit}
 use Rattle.sender_state.specs.declared.Sender.{Sender}
 use Rattle.sender_state.proofs.Facts.{Ruled, ruled, packet-in}
-use Rattle.sender_state.specs.Numbers.{run, markedWith, waiting, inFlight, bytesAt, packetOf}
+use Rattle.sender_state.specs.Numbers.{run, markedWith, waiting, inFlight, bytesAt, storedPacket}
 use Rattle.sender_resend.specs.Resend.{isIn}
 use Rattle.sender_state.proofs.Runs.{beyond}
 use Rattle.sender_state.proofs.Search.{place-is, stored, tidy}
@@ -150,7 +150,7 @@ module _ (s : Sender) (store : List ℕ) (n : ℕ) where
   unfolding standing
   waits-told =
       case
-      (λ (a : n < s .next .0). rw (lt-ltb _ _ a, lt-leb _ _ a) (told-waits (packetOf s store n) (sentOf s n) (markOf s n)))
+      (λ (a : n < s .next .0). rw (lt-ltb _ _ a, lt-leb _ _ a) (told-waits (storedPacket s store n) (sentOf s n) (markOf s n)))
       (λ (a : n < s .next .0 → ⊥). rw (le-ltb n (s .next .0) (omega arith), le-leb (s .next .0) n (omega arith)))
       (decLt n (s .next .0))
 
@@ -158,7 +158,7 @@ module _ (s : Sender) (store : List ℕ) (n : ℕ) where
   unfolding standing
   flies-told =
       case
-      (λ (a : n < s .next .0). rw (lt-ltb _ _ a, lt-leb _ _ a) (told-flies (packetOf s store n) (sentOf s n) (markOf s n)))
+      (λ (a : n < s .next .0). rw (lt-ltb _ _ a, lt-leb _ _ a) (told-flies (storedPacket s store n) (sentOf s n) (markOf s n)))
       (λ (a : n < s .next .0 → ⊥). rw (le-ltb n (s .next .0) (omega arith), le-leb (s .next .0) n (omega arith)))
       (decLt n (s .next .0))
 

@@ -30,10 +30,11 @@ use Rattle.sender_submit.specs.Submit.{submitOf}
 use Rattle.sender_submit.proofs.Ways.{Made, made}
 use Rattle.sender_meaning.specs.Meaning.{standing, Sound}
 use Rattle.sender_meaning.specs.Steps.{isFair, chunkAt, chunksFrom, submittedAs, isOutside}
+use Rattle.sender_meaning.specs.Changes.{Stores}
 use Rattle.sender_meaning.proofs.Counts.{fair-rung}
 use Rattle.sender_meaning.proofs.Stands.{waiting-count}
 use Rattle.sender_meaning.proofs.SubmittingChunks.{chunks-are-bytes, chunk-some, chunk-most}
-use Rattle.sender_meaning.proofs.SubmittingStored.{FitsPlaces, Stores, stores}
+use Rattle.sender_meaning.proofs.SubmittingStored.{FitsPlaces, stores}
 
 -- a packet with the ack fields of any receiver fits a place
 pub packet-fits : (r : Receiver) (send recv : StreamId) (chunk : ℕ) → FitsPlaces (dataPacket r send recv) chunk

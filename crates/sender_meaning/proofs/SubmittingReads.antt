@@ -16,29 +16,14 @@ use Rattle.receiver_state.specs.Rules.{rulesOf}
 use Rattle.receiver_state.specs.declared.Receiver.{Receiver}
 use Rattle.receiver_ack.specs.Missing.{missingFrom}
 use Rattle.receiver_ack.specs.Fields.{atLeast255, fieldsFrom, ackFieldsOf, ackNacksOf, ackThroughOf}
-use Rattle.receiver_ack.proofs.Carried.{Carries, acked-reads, through-read}
+use Rattle.receiver_ack.proofs.Carried.{acked-reads, through-read}
 use Rattle.sender_state.specs.declared.Sender.{Sender}
 use Rattle.sender_submit.specs.Chunks.{dataPacket}
 use Rattle.sender_submit.specs.Submit.{submitOf}
 use Rattle.sender_meaning.specs.Meaning.{waits, standing, Sound}
 use Rattle.sender_meaning.specs.Steps.{chunkAt}
+use Rattle.sender_meaning.specs.Changes.{ReadsAsData}
 use Rattle.sender_meaning.proofs.Submitting.{submit-done, submit-count, submit-means, submit-chunk-most}
-
--- What our reader finds in the packet p of a number and a chunk, with the ack fields of the receiver r.
-pub record ReadsAsData (r : Receiver) (send recv : StreamId) (number : ℕ) (payload p : List ℕ) : Type 0 where
-  pub readable : readOf p ≡ values (fieldsOf p)
-  pub send-read : fieldsOf p .«send_stream_id» .0 ≡ send .0
-  pub recv-read : fieldsOf p .«recv_stream_id» .0 ≡ recv .0
-  pub number-read : fieldsOf p .«seq_nro» .0 ≡ number
-  pub through-read : fieldsOf p .«ack_through» .0 ≡ ackThroughOf r
-  pub count-read : nackCount p ≡ length (ackNacksOf r)
-  pub nacks-read : numbersAt 4 (nackCount p) 17 p ≡ ackNacksOf r
-  pub flags-read : fieldsOf p .flags ≡ ackFieldsOf r .flags
-  -- NO ACK is clear: its ack fields count
-  pub acks-count : bit 10 (fieldsOf p .flags) ≡ false
-  pub payload-read : payloadOf p ≡ payload
-  -- the whole of it, as every packet that carries a receiver's ack fields
-  pub carries : Carries r send recv number payload p
 
 module _ (r : Receiver) (send recv : StreamId) where
   no-ack-clear : bit 10 (ackFieldsOf r .flags) ≡ false
@@ -63,7 +48,12 @@ module _ (r : Receiver) (send recv : StreamId) where
         flags-read = rw is;
         acks-count = rw is no-ack-clear;
         payload-read = c .payload-read;
-        carries = c;
+        resend-delay-read = rw is;
+        delay-read = rw is;
+        max-size-read = rw is;
+        no-destination = c .no-destination;
+        no-signature = c .no-signature;
+        no-leftover = rw is;
       }
 
 -- Each number that submit gives waits as a packet that reads as its number and its chunk.

@@ -13,7 +13,7 @@ use Rattle.receiver_calls.proofs.Standings.{part-same, laid-length, laid-here, 
 use Rattle.sender_state.specs.Table.{_!_, placeOf}
 use Rattle.sender_state.specs.declared.Sender.{Sender}
 use Rattle.sender_state.proofs.Facts.{rules-of, sized}
-use Rattle.sender_state.specs.Numbers.{sizeOf, offsetOf, packetOf}
+use Rattle.sender_state.specs.Numbers.{sizeOf, offsetOf, storedPacket}
 use Rattle.sender_state.proofs.Runs.{beyond}
 use Rattle.sender_state.proofs.Search.{place-is}
 use Rattle.sender_submit_answer.specs.Answer.{freeOf}
@@ -106,7 +106,7 @@ module _ (s : Sender) (store : List ℕ) (sound : Sound s store) (packet : List 
         (λ (h : p < 192 → ⊥). omega (arith, beyond (s .lengths) p 0 (omega (arith, sound .lengths-long))))
         (decLt p 192)
 
-    packet-stays : packetOf (grown s packet) (laid s packet store) n ≡ packetOf s store n
+    packet-stays : storedPacket (grown s packet) (laid s packet store) n ≡ storedPacket s store n
     packet-stays =
         let p = lowestFree s in
         let q = placeOf (s .numbers) n in

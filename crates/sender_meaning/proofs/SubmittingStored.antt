@@ -18,6 +18,7 @@ use Rattle.sender_submit.specs.Chunks.{lowestFree, Stored, storedBy}
 use Rattle.sender_submit.specs.Steps.{Roomy}
 use Rattle.sender_meaning.specs.Meaning.{Standing, waits, standing, Sound}
 use Rattle.sender_meaning.specs.Steps.{submittedAs, isOutside}
+use Rattle.sender_meaning.specs.Changes.{Stores}
 use Rattle.sender_meaning.proofs.Stands.{facts}
 use Rattle.sender_meaning.proofs.SubmittingRules.{Room, grown, laid}
 use Rattle.sender_meaning.proofs.SubmittingStep.{laid-long, joined-sound, free-less, place-next, size-next, place-stays, size-stays, next-waits, others-stand, byte-stays}
@@ -27,22 +28,6 @@ use Rattle.sender_meaning.proofs.SubmittingChunks.{chunk-later}
 pub record FitsPlaces (packet : ℕ → List ℕ → List ℕ) (chunk : ℕ) : Type 0 where
   pub long : (n : ℕ) (payload : List ℕ) → 22 ≤ length (packet n payload)
   pub short : (n : ℕ) (payload : List ℕ) → length payload ≤ chunk → length (packet n payload) ≤ chunk + 1044
-
--- what so many packets more leave: a state and a store that belong together, every number's standing, and every byte that is none of theirs
-pub record Stores (packet : ℕ → List ℕ → List ℕ) (count : ℕ) (bytes : List ℕ) (s : Sender) (store : List ℕ) (after : Stored) : Type 0 where
-  pub sound : Sound (after .state) (after .store)
-  pub next-is : after .state .next .0 ≡ s .next .0 + count
-  pub chunk-is : after .state .chunk ≡ s .chunk
-  pub count-is : after .state .count ≡ s .count
-  pub window-is : after .state .window ≡ s .window
-  pub timing-is : after .state .timing ≡ s .timing
-  pub timer-is : after .state .timer ≡ s .timer
-  pub clock-is : after .state .clock ≡ s .clock
-  pub means : (n : ℕ) → standing (after .state) (after .store) n ≡ submittedAs packet (s .chunk) (s .next .0) count bytes n (standing s store n)
-  pub place-is : (n : ℕ) → (n ≡ 0 → ⊥) → n < s .next .0 → placeOf (after .state .numbers) n ≡ placeOf (s .numbers) n
-  pub size-is : (n : ℕ) → (n ≡ 0 → ⊥) → n < s .next .0 → sizeOf (after .state) n ≡ sizeOf s n
-  pub long : length (after .store) ≡ length store
-  pub byte-is : (k : ℕ) → ((n : ℕ) → s .next .0 ≤ n → n < s .next .0 + count → isOutside (after .state) n k ≡ true) → getD (after .store) k 0 ≡ getD store k 0
 
 -- a byte is outside a packet, by its place and length
 outside : (at size k : ℕ) → (ltb k at || leb (at + size) k) ≡ true → at ≤ k → k < at + size → ⊥

@@ -10,7 +10,7 @@ use Rattle.terms.specs.Ladder.{_when_else_}
 use Rattle.sender_state.specs.Table.{_!_, isWaiting, isFlying, placeOf}
 use Rattle.sender_state.specs.Rules.{rules, sizesFit}
 use Rattle.sender_state.specs.declared.Sender.{Sender}
-use Rattle.sender_state.specs.Numbers.{packetOf}
+use Rattle.sender_state.specs.Numbers.{storedPacket}
 
 pub data Standing : Type 0 where
   -- the next number, or one above it: no packet was made for it
@@ -33,8 +33,8 @@ sentOf s n = s .sent ! placeOf (s .numbers) n
 unfoldable pub standing : Sender → List ℕ → ℕ → Standing
 standing s store n =
     unmade when leb (s .next .0) n else
-    waits (packetOf s store n) when isWaiting (markOf s n) else
-    flies (packetOf s store n) (sentOf s n) when isFlying (markOf s n) else
+    waits (storedPacket s store n) when isWaiting (markOf s n) else
+    flies (storedPacket s store n) (sentOf s n) when isFlying (markOf s n) else
     gone
 
 -- the packet of a number that waits or flies

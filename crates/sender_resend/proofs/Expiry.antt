@@ -12,7 +12,7 @@ use lib.Seq.{take-all, take-at}
 use Rattle.terms.proofs.Laws.{case}
 use Rattle.sender_state.specs.Steps.{leastOf, Tidy}
 use Rattle.sender_state.specs.Table.{_!_, placeOf}
-use Rattle.sender_state.specs.Numbers.{run, numbersAt, markedWith}
+use Rattle.sender_state.specs.Numbers.{run, numbersWhere, markedWith}
 use Rattle.sender_resend.specs.Steps.{Expires}
 use Rattle.sender_resend.specs.Resend.{runWhile, aged, expiredIn}
 use Rattle.sender_state.proofs.Runs.{beyond, run-append}
@@ -52,7 +52,7 @@ module _ (numbers sent marks : List ℕ) (next clock rto window : ℕ) where
 
   module _ (count end low : ℕ) (r : Expiring count end low) where
     -- the numbers in flight: those below end, and the rest
-    whole : numbersAt numbers next (markedWith 2 marks) ≡ run flies 0 end ++ run flies end (next - end)
+    whole : numbersWhere numbers next (markedWith 2 marks) ≡ run flies 0 end ++ run flies end (next - end)
     whole =
         let e : next ≡ end + (next - end) = omega (arith, r .inside) in
         ap (run flies 0) e ∙ run-append flies end 0 (next - end) ∙ ap (λ (k : ℕ). run flies 0 end ++ run flies k (next - end)) (zero-add end)

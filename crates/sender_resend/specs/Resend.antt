@@ -16,7 +16,7 @@ use Rattle.sender_state.specs.Answers.{Outcome, saidTally}
 use Rattle.sender_state.specs.declared.Sender.{Sender}
 use Rattle.sender_state.specs.declared.Timer.{Timer}
 use Rattle.sender_state.specs.declared.Timer.the-variants as T
-use Rattle.sender_state.specs.Numbers.{numbersAt, markedWith, inFlight}
+use Rattle.sender_state.specs.Numbers.{numbersWhere, markedWith, inFlight}
 use Rattle.sender_resend.specs.declared.Resent.{Resent}
 
 -- the timer is due: armed, and the clock at or past it
@@ -48,7 +48,7 @@ aged numbers sent clock rto n = ltb rto (clock - (sent ! placeOf numbers n))
 
 -- expired: the longest run from the lowest in-flight number with age strictly above RTO, at most window many
 abbrev pub expiredIn : List ℕ → List ℕ → List ℕ → ℕ → ℕ → ℕ → ℕ → List ℕ
-expiredIn numbers sent marks next clock rto window = take window (runWhile (aged numbers sent clock rto) (numbersAt numbers next (markedWith 2 marks)))
+expiredIn numbers sent marks next clock rto window = take window (runWhile (aged numbers sent clock rto) (numbersWhere numbers next (markedWith 2 marks)))
 
 abbrev pub expiredOf : Sender → ℕ → List ℕ
 expiredOf s clock = expiredIn (s .numbers) (s .sent) (s .marks) (s .next .0) clock (rtoOf (s .timing)) (s .window)

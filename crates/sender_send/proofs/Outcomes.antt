@@ -16,7 +16,7 @@ use Rattle.sender_state.specs.Table.{_!_, countOf, placeOf}
 use Rattle.sender_state.specs.Answers.{Outcome}
 use Rattle.sender_state.specs.Rules.{rules, sizesFit, clockWrong}
 use Rattle.sender_state.specs.declared.Sender.{Sender}
-use Rattle.sender_state.specs.Numbers.{waiting, inFlight, sizeOf, bytesAt, packetOf}
+use Rattle.sender_state.specs.Numbers.{waiting, inFlight, sizeOf, bytesAt, storedPacket}
 use Rattle.sender_state.proofs.Facts.{clock-fair}
 use Rattle.sender_send.specs.Fetch.{fetchSaid, Fetches, fetchOf}
 use Rattle.sender_send.specs.Send.{saidSent, sendSaid, armed, moved, departed, sendOf}
@@ -70,7 +70,7 @@ module _ (s : Sender) (clock : ℕ) (store output : List ℕ) where
   send-refused n e = simp e
 
   pub send-done : (given : List ℕ) → sendSaid s clock (length store) (length output) ≡ values given
-      → sendOf s clock store output ≡ record { says = values given; state = departed s clock; lent = packetOf s store (waiting s ! 0) atFrontOf output }
+      → sendOf s clock store output ≡ record { says = values given; state = departed s clock; lent = storedPacket s store (waiting s ! 0) atFrontOf output }
   unfolding sendOf
   send-done given e = simp e
 

@@ -11,7 +11,7 @@ use Rattle.terms.specs.declared.Given.{Given}
 use Rattle.sender_state.specs.Table.{_!_}
 use Rattle.sender_state.specs.Rules.{rules, sizesFit}
 use Rattle.sender_state.specs.declared.Sender.{Sender}
-use Rattle.sender_state.specs.Numbers.{inFlight, sizeOf, packetOf}
+use Rattle.sender_state.specs.Numbers.{inFlight, sizeOf, storedPacket}
 
 -- the answer, by document 01's numbers in its order; rank 0 is the lowest number in flight
 unfoldable pub fetchSaid : Sender → ℕ → ℕ → ℕ → Said
@@ -37,7 +37,7 @@ fetchOf s rank store output =
     let answer = fetchSaid s rank (length store) (length output) in
     record {
       says = answer;
-      output = packetOf s store (inFlight s ! rank) atFrontOf output unlessRefused answer else output;
+      output = storedPacket s store (inFlight s ! rank) atFrontOf output unlessRefused answer else output;
     }
 
 -- results of the code, as an outcome

@@ -15,7 +15,7 @@ use Rattle.sender_state.specs.Answers.{Outcome}
 use Rattle.sender_state.specs.declared.Sender.{Sender}
 use Rattle.sender_state.specs.declared.Timer.{Timer}
 use Rattle.sender_state.specs.declared.Timer.the-variants as T
-use Rattle.sender_state.specs.Numbers.{waiting, sizeOf, packetOf}
+use Rattle.sender_state.specs.Numbers.{waiting, sizeOf, storedPacket}
 use Rattle.sender_send.specs.declared.Departure.{Departure}
 use Rattle.sender_send.specs.declared.Departure.the-variants as D
 use Rattle.sender_send.specs.declared.Sent.{Sent}
@@ -74,7 +74,7 @@ sendOf s clock store output =
     record {
       says = answer;
       state = departed s clock unlessRefused answer else s;
-      lent = packetOf s store (waiting s ! 0) atFrontOf output unlessRefused answer else output;
+      lent = storedPacket s store (waiting s ! 0) atFrontOf output unlessRefused answer else output;
     }
 
 -- results of the code, as an outcome

@@ -5,7 +5,7 @@ ghost use lib.ListN.{length};
 ghost use Rattle.terms.specs.Lists.{_atFrontOf_};
 ghost use Rattle.sender_state.specs.Steps.{Tidy};
 ghost use Rattle.sender_send.specs.Steps.{atRank};
-ghost use Rattle.sender_state.specs.Numbers.{numbersAt, markedWith, offsetOf, bytesAt};
+ghost use Rattle.sender_state.specs.Numbers.{numbersWhere, markedWith, offsetOf, bytesAt};
 
 // The number at a rank of those that bear the mark, the lowest first; 4,294,967,295 where there is none.
 pub(super) fn ranked<'a>(
@@ -16,7 +16,7 @@ pub(super) fn ranked<'a>(
     next: u32,
 ) -> u32
     requires { ⌜ Tidy (now numbers) (now marks) wanted next ⌝ }
-    ensures { λ r. ⌜ r ≡ atRank (numbersAt (now (numbers .entry)) next (markedWith wanted (now (marks .entry)))) rank ⌝ }
+    ensures { λ r. ⌜ r ≡ atRank (numbersWhere (now (numbers .entry)) next (markedWith wanted (now (marks .entry)))) rank ⌝ }
 {
     let mut low = sender_state::least(numbers, marks, wanted, 0);
     let mut k = 0;

@@ -14,7 +14,7 @@ use Rattle.terms.proofs.Laws.{case, and-left, and-right, and-both, each-at, eac
 use Rattle.timer.specs.Timer.{timingFits}
 use Rattle.sender_state.specs.Table.{_!_, isFree, isWaiting, isFlying, countOf}
 use Rattle.sender_state.specs.Numbers.{offsetOf}
-use Rattle.sender_state.specs.Rules.{apart, belowWaiting, below, someNumber, freeFrom, emptyPlace, unsent, sentBy, lengthWithin, knownMark, timerFits, rules, countsFit, sizesFit, clockWrong}
+use Rattle.sender_state.specs.Rules.{apart, belowWaiting, below, someNumber, freeFrom, emptyPlace, unsent, sentInTime, lengthWithin, knownMark, timerFits, rules, countsFit, sizesFit, clockWrong}
 use Rattle.sender_state.specs.declared.Sender.{Sender}
 
 -- a test at each place
@@ -73,7 +73,7 @@ module _ (s : Sender) where
       let h7 = and-right (each (emptyPlace numbers (s .lengths) (s .sent)) 0 m) _ h6 in
       let h8 = and-right (each (unsent (s .sent)) 0 m) _ h7 in
       let h9 = and-right (leb (countOf 2 m) 128) _ h8 in
-      let h10 = and-right (each (sentBy (s .sent) (s .clock)) 0 m) _ h9 in
+      let h10 = and-right (each (sentInTime (s .sent) (s .clock)) 0 m) _ h9 in
       let h11 = and-right (timerFits (s .timer) (s .clock)) _ h10 in
       let h12 = and-right (leb 1 (s .window)) _ h11 in
       let h13 = and-right (leb (s .window) 128) _ h12 in
@@ -86,7 +86,7 @@ module _ (s : Sender) where
       let r5 = and-left (each (freeFrom (s .count)) 0 m) _ h5 in
       let r6 = and-left (each (emptyPlace numbers (s .lengths) (s .sent)) 0 m) _ h6 in
       let r7 = and-left (each (unsent (s .sent)) 0 m) _ h7 in
-      let r9 = and-left (each (sentBy (s .sent) (s .clock)) 0 m) _ h9 in
+      let r9 = and-left (each (sentInTime (s .sent) (s .clock)) 0 m) _ h9 in
       let r14 = and-left (each (lengthWithin (s .lengths) (s .chunk)) 0 m) _ h14 in
       let vacant : (i : ℕ) → i < length m → m ! i ≡ 0 → (eqb (numbers ! i) 0 && (eqb (s .lengths ! i) 0 && eqb (s .sent ! i) 0)) ≡ true =
       λ i h z. unless-at (eqb (numbers ! i) 0 && (eqb (s .lengths ! i) 0 && eqb (s .sent ! i) 0)) (not (isFree (m ! i))) (at-place (emptyPlace numbers (s .lengths) (s .sent)) m r6 i h) (rw (eq-eqb _ _ z)) in
@@ -109,7 +109,7 @@ module _ (s : Sender) where
         no-time = λ i h z. eqb-true _ _ (and-right (eqb (s .lengths ! i) 0) (eqb (s .sent ! i) 0) (and-right (eqb (numbers ! i) 0) _ (vacant i h z)));
         not-sent = λ i h w. eqb-true _ _ (unless-at (eqb (s .sent ! i) 0) (not (isWaiting (m ! i))) (at-place (unsent (s .sent)) m r7 i h) (rw (eq-eqb _ _ w)));
         few = leb-true _ _ (and-left (leb (countOf 2 m) 128) _ h8);
-        past = λ i h. leb-true _ _ (at-place (sentBy (s .sent) (s .clock)) m r9 i h);
+        past = λ i h. leb-true _ _ (at-place (sentInTime (s .sent) (s .clock)) m r9 i h);
         due = and-left (timerFits (s .timer) (s .clock)) _ h10;
         window-some = leb-true _ _ (and-left (leb 1 (s .window)) _ h11);
         window-most = leb-true _ _ (and-left (leb (s .window) 128) _ h12);
@@ -158,7 +158,7 @@ module _ (s : Sender) where
       (and-both (each (unsent (s .sent)) 0 m) _
       (of-places (unsent (s .sent)) m (λ i h. or-of (not (isWaiting (m ! i))) _ (λ e. eq-eqb _ _ (r .not-sent i h (eqb-true (m ! i) 1 (not-false (isWaiting (m ! i)) e))))))
       (and-both (leb (countOf 2 m) 128) _ (le-leb _ _ (r .few))
-      (and-both (each (sentBy (s .sent) (s .clock)) 0 m) _ (of-places (sentBy (s .sent) (s .clock)) m (λ i h. le-leb _ _ (r .past i h)))
+      (and-both (each (sentInTime (s .sent) (s .clock)) 0 m) _ (of-places (sentInTime (s .sent) (s .clock)) m (λ i h. le-leb _ _ (r .past i h)))
       (and-both (timerFits (s .timer) (s .clock)) _ (r .due)
       (and-both (leb 1 (s .window)) _ (le-leb _ _ (r .window-some))
       (and-both (leb (s .window) 128) _ (le-leb _ _ (r .window-most))

@@ -14,17 +14,17 @@ run p from zero = []
 run p from (suc count) = (from ∷ run p (suc from) count) when p from else run p (suc from) count
 
 -- the numbers below next whose place passes, ascending
-abbrev pub numbersAt : List ℕ → ℕ → (ℕ → Bool) → List ℕ
-numbersAt numbers next p = run (λ n. p (placeOf numbers n)) 0 next
+abbrev pub numbersWhere : List ℕ → ℕ → (ℕ → Bool) → List ℕ
+numbersWhere numbers next p = run (λ n. p (placeOf numbers n)) 0 next
 
 abbrev pub markedWith : ℕ → List ℕ → ℕ → Bool
 markedWith mark marks i = eqb (marks ! i) mark
 
 abbrev pub waiting : Sender → List ℕ
-waiting s = numbersAt (s .numbers) (s .next .0) (markedWith 1 (s .marks))
+waiting s = numbersWhere (s .numbers) (s .next .0) (markedWith 1 (s .marks))
 
 abbrev pub inFlight : Sender → List ℕ
-inFlight s = numbersAt (s .numbers) (s .next .0) (markedWith 2 (s .marks))
+inFlight s = numbersWhere (s .numbers) (s .next .0) (markedWith 2 (s .marks))
 
 -- the length of a number's packet, and its bytes: at the front of its place in the store
 abbrev pub sizeOf : Sender → ℕ → ℕ
@@ -36,5 +36,5 @@ offsetOf chunk place = place * (chunk + 1044)
 abbrev pub bytesAt : ℕ → ℕ → ℕ → List ℕ → List ℕ
 bytesAt chunk place size store = part store (offsetOf chunk place) (offsetOf chunk place + size)
 
-abbrev pub packetOf : Sender → List ℕ → ℕ → List ℕ
-packetOf s store n = bytesAt (s .chunk) (placeOf (s .numbers) n) (sizeOf s n) store
+abbrev pub storedPacket : Sender → List ℕ → ℕ → List ℕ
+storedPacket s store n = bytesAt (s .chunk) (placeOf (s .numbers) n) (sizeOf s n) store

@@ -50,8 +50,8 @@ emptyPlace numbers lengths sent i mark = (eqb (numbers ! i) 0 && (eqb (lengths !
 abbrev pub unsent : List ℕ → ℕ → ℕ → Bool
 unsent sent i mark = eqb (sent ! i) 0 unless not (isWaiting mark)
 
-abbrev pub sentBy : List ℕ → ℕ → ℕ → ℕ → Bool
-sentBy sent clock i mark = leb (sent ! i) clock
+abbrev pub sentInTime : List ℕ → ℕ → ℕ → ℕ → Bool
+sentInTime sent clock i mark = leb (sent ! i) clock
 
 abbrev pub lengthWithin : List ℕ → ℕ → ℕ → ℕ → Bool
 lengthWithin lengths chunk i mark = (leb 22 (lengths ! i) && leb (lengths ! i) (chunk + 1044)) unless isFree mark
@@ -84,7 +84,7 @@ rules s =
     -- at most 128 in flight
     leb (countOf 2 (s .marks)) 128 and
     -- send times at most the last clock
-    each (sentBy (s .sent) (s .clock)) 0 (s .marks) and
+    each (sentInTime (s .sent) (s .clock)) 0 (s .marks) and
     -- timer at most 60,000 past it
     timerFits (s .timer) (s .clock) and
     -- window 1 to 128
