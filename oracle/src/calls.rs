@@ -169,7 +169,7 @@ fn sender_of(record: &SenderRecord) -> Script {
     let script = script.u8(record.sampled).u32(record.rtt).u32(record.deviation);
     let script = script.u8(record.armed).u64(record.at).u64(record.clock).u16(record.places.len() as u16);
     let place = |script: Script, (i, place): &(u8, Place)| {
-        script.u8(*i).u32(place.number).u32(place.length).u64(place.sent).u32(place.mark)
+        script.u8(*i).u32(place.number).u32(place.length).u64(place.sent).u32(place.mark).u32(place.resent)
     };
     record.places.iter().fold(script, place)
 }

@@ -2,9 +2,10 @@
 //! they must answer. The Rust does several things in one `poll`; the state is compared where the Rust shows it, at the end.
 use crate::{
     ack::{self, MISSING},
-    active::Rig,
+    active::{Rig, Timing},
     calls::{Buffer, Call},
     common::{checksum, Random},
+    model::timer as model,
     packet::Packet,
     runtime::Bench,
     step::Step,
@@ -29,6 +30,8 @@ pub struct Host {
     /// What ours must have stored under each number, and the numbers where that is not what the Rust has.
     packets: BTreeMap<u32, Vec<u8>>,
     mended: BTreeSet<u32>,
+    /// The numbers in flight that were sent more than once, which the Rust does not remember.
+    resent: BTreeSet<u32>,
     /// The client's messages that the Rust did not read yet.
     pub client: VecDeque<Vec<u8>>,
     /// The last clock that a call of ours accepted.
@@ -46,6 +49,7 @@ impl Host {
             store: vec![fill; places * PLACE],
             packets: BTreeMap::new(),
             mended: BTreeSet::new(),
+            resent: BTreeSet::new(),
             client: VecDeque::new(),
             clock: 0,
         };
@@ -82,7 +86,8 @@ impl Host {
         state.extend([timer.is_some().into(), timer.unwrap_or(0), self.clock, stored.len() as u64]);
         for (i, number) in stored {
             let (sent, mark) = in_flight.get(&number).map_or((0, 1), |sent| (*sent, 2));
-            state.extend([i as u64, number.into(), self.packets[&number].len() as u64, sent, mark]);
+            let resent = self.resent.contains(&number).into();
+            state.extend([i as u64, number.into(), self.packets[&number].len() as u64, sent, mark, resent]);
         }
         state
     }
@@ -217,6 +222,10 @@ impl Host {
     /// `resend` alone, where the timer is due.
     pub fn resend(&mut self, random: &mut Random) {
         let new_path = !random.one_in(3);
+        self.resend_by(random, new_path);
+    }
+
+    pub fn resend_by(&mut self, random: &mut Random, new_path: bool) {
         self.rig.set_new_path(new_path);
         self.rig.resend();
         let (again, first) = self.sent();
@@ -230,6 +239,7 @@ impl Host {
         self.clock = clock;
         let path = if new_path { [1, 255][random.below(2)] } else { 0 };
         self.note(Call::Resend { clock, path }, "resend", vec![0, again.len() as u64]);
+        self.resent.extend(again.iter().map(|(number, _)| *number));
         self.show();
         for (rank, (number, packet)) in again.into_iter().enumerate() {
             assert!(
@@ -259,14 +269,13 @@ impl Host {
         let (flying, before, clock) = (self.rig.unacked(), self.before(), Bench::clock());
         self.rig.handle_acks(through, &nacks);
         let left = self.rig.unacked();
-        let ages = flying.into_iter().filter(|packet| !left.contains(packet)).map(|(_, sent)| (clock - sent) as u32);
-        let ages: Vec<u32> = ages.collect();
-        let count = ages.len();
+        let acked: Vec<_> = flying.into_iter().filter(|packet| !left.contains(packet)).collect();
+        let count = acked.len();
         self.clock = clock;
         for place in &mut self.places {
             *place = place.filter(|number| self.rig.packet(*number).is_some());
         }
-        let listed = self.measured(before, &ages);
+        let listed = self.measured(before, acked);
         self.note(Call::Acks { through, nacks, clock }, "acks", vec![0, count as u64]).listed = listed;
         self.show();
     }
@@ -277,21 +286,32 @@ impl Host {
         self.rig.sampled().then_some((timing.rtt as u32, timing.deviation as u32))
     }
 
-    /// The Rust took these samples, one after the other. Its RTT and its own deviation must be what they make of the timing before them; then the
-    /// mended deviation and RTO are set in their place, and the reason is told where they are others.
-    fn measured(&mut self, before: timer::Before, ages: &[u32]) -> Option<&'static str> {
-        let (mut ours, mut rust, mut last) = (before, before, None);
-        for age in ages {
-            let step = timer::unmended(rust, *age);
-            let mended = timer::mended(ours, *age, &step);
-            ours = Some((mended.rtt as u32, mended.deviation as u32));
-            rust = Some((step.rtt as u32, step.deviation as u32));
-            last = Some(mended);
+    /// The Rust took a sample of each of these packets, one after the other. Its timing must be what its own functions make of them; then ours is set in
+    /// its place, which takes none of a packet that was sent more than once, and the reason is told where the two are others.
+    fn measured(&mut self, before: timer::Before, acked: Vec<(u32, u64)>) -> Option<&'static str> {
+        let whole = |timing: &Timing| Some((timing.rtt as u32, timing.deviation as u32));
+        let (first, mut again) = (before.is_none() && acked.len() == 1, false);
+        let (mut rust, mut ours, mut last) = (before, before, None);
+        for (number, sent) in acked {
+            let age = (Bench::clock() - sent) as u32;
+            rust = whole(&timer::unmended(rust, age));
+            if self.resent.remove(&number) {
+                again = true;
+                continue;
+            }
+            let mended = timer::mended(ours, age, &timer::unmended(ours, age));
+            (ours, last) = (whole(&mended), Some(mended));
         }
         assert_eq!(self.before(), rust, "the Rust's own samples");
+        if again {
+            let rto = model::rto(ours);
+            let kept = ours.map(|(rtt, deviation)| Timing { rtt: rtt.into(), deviation: deviation.into(), rto });
+            self.rig.set_timing(kept.as_ref());
+            return Some(timer::RESENT);
+        }
         let mended = last?;
-        let listed = timer::reason(&mended, &self.rig.timing(), before.is_none() && ages.len() == 1);
-        self.rig.set_timing(&mended);
+        let listed = timer::reason(&mended, &self.rig.timing(), first);
+        self.rig.set_timing(Some(&mended));
         listed
     }
 }

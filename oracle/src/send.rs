@@ -10,7 +10,7 @@ use crate::{
     host::{Host, CHUNK, OUTPUT},
     runtime::Bench,
     step::Step,
-    timer::{DEVIATION, FIRST, HIGH, LOW, ROUNDED},
+    timer::{DEVIATION, FIRST, HIGH, LOW, RESENT, ROUNDED},
 };
 use std::{
     collections::BTreeSet,
@@ -26,7 +26,7 @@ const LATEST: u64 = (1 << 32) - 100_000;
 pub struct Run(Vec<Step>);
 
 impl Case for Run {
-    const LISTED: &'static [&'static str] = &[LOW, HIGH, FIRST, ROUNDED, DEVIATION, OUTPUT, MISSING, SLOTS, NUMBERS, NACKS];
+    const LISTED: &'static [&'static str] = &[LOW, HIGH, FIRST, ROUNDED, DEVIATION, RESENT, OUTPUT, MISSING, SLOTS, NUMBERS, NACKS];
 
     fn make(seed: u64, index: usize) -> Self {
         let mut random = Random::of(seed, index);
@@ -66,7 +66,7 @@ fn smallest(random: &mut Random, index: usize) -> Option<Vec<Step>> {
         2 => (1, 1, 1, CHUNK + 1),
         3 => (LAST, 1, 1, 1),
         4 => (LAST + 1, 1, 1, 1),
-        5 => (1, 1, 1, 1),
+        5 | 6 => (1, 1, 1, 1),
         _ => return None,
     };
     Bench::set_clock(0);
@@ -74,8 +74,16 @@ fn smallest(random: &mut Random, index: usize) -> Option<Vec<Step>> {
     let mut draft = Draft { host, accepted: BTreeSet::new(), large: false, events: 0 };
     draft.host.accept(accepted);
     draft.write(random, vec![0; length]);
-    if index == 5 {
-        draft.many_nacks();
+    match index {
+        5 => draft.many_nacks(),
+        // Sent at 0, sent again at 9,001, and acknowledged at 9,002: the ack may be for the first copy.
+        6 => {
+            Bench::set_clock(9_001);
+            draft.host.resend_by(random, true);
+            Bench::set_clock(9_002);
+            draft.host.acks(1, vec![]);
+        }
+        _ => {}
     }
     Some(draft.host.steps)
 }
@@ -92,7 +100,7 @@ struct Draft {
 impl Draft {
     fn new(random: &mut Random, index: usize) -> Self {
         // Our program sums the whole store after each submit, so many places are rare.
-        let large = index == 6 || random.one_in(1_000);
+        let large = index == 7 || random.one_in(1_000);
         let places = match random.below(8) {
             _ if large => [192, random.from_to(100, 192)][random.below(2)],
             0 => random.from_to(9, 24),

@@ -12,6 +12,7 @@ pub const HIGH: &str = "RTO held to 60,000";
 pub const FIRST: &str = "first RTO";
 pub const ROUNDED: &str = "deviation rounded before it is multiplied";
 pub const DEVIATION: &str = "deviation against the time before its update";
+pub const RESENT: &str = "resent packets not timed";
 
 /// RTT and deviation before a sample; none before the first.
 pub type Before = Option<(u32, u32)>;

@@ -58,11 +58,12 @@ fn mark(bank: &mut Bank) {
 // A place and what it holds.
 fn place(bank: &mut Bank) {
     let i = input::limited(bank, 1, 191);
-    let at = PLACES + 4 * i;
+    let at = PLACES + 5 * i;
     number(bank, at, 4);
     number(bank, at + 1, 4);
     number(bank, at + 2, 8);
     number(bank, at + 3, 4);
+    number(bank, at + 4, 4);
 }
 
 // The k-th item of a list.
@@ -94,7 +95,7 @@ fn plain(bank: &mut Bank, at: usize, kind: u8) {
             list(bank, at, kind, 512)
         }
         b'p' => {
-            registers::clear(bank, PLACES, 768);
+            registers::clear(bank, PLACES, 960);
             list(bank, at, kind, 192)
         }
         _ => number(bank, at, width(kind)),

@@ -72,7 +72,7 @@ fn receiver(page: &mut Page, at: usize, bank: &Bank) -> usize {
 
 fn sender(page: &mut Page, at: usize, bank: &Bank) -> usize {
     let end = output::numbers(page, at, bank, SENDER, 10);
-    rows(page, end, bank, PLACES, 192, 4)
+    rows(page, end, bank, PLACES, 192, 5)
 }
 
 // What stands behind the numbers of an answer, by its mark in the table.

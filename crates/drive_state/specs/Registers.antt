@@ -13,10 +13,10 @@ use Rattle.sender_state.specs.declared.Timer.the-variants as T
 
 -- a field of the k-th place, cut to 32 bits; and its send time
 abbrev pub fieldIn : List ℕ → ℕ → ℕ → ℕ
-fieldIn bank field k = numberIn bank (1024 + 4 * k + field % 4) % 4294967296
+fieldIn bank field k = numberIn bank (1024 + 5 * k + field % 5) % 4294967296
 
 abbrev pub timeIn : List ℕ → ℕ → ℕ
-timeIn bank k = numberIn bank (1024 + 4 * k + 2)
+timeIn bank k = numberIn bank (1024 + 5 * k + 2)
 
 abbrev pub timingIn : List ℕ → Timing
 timingIn bank = G.Unsampled when eqb (numberIn bank 76) 0 else G.Sampled (numberIn bank 77 % 4294967296) (numberIn bank 78 % 4294967296)
@@ -36,3 +36,4 @@ pub record SenderIn (bank : List ℕ) (s : Sender) : Type 0 where
   pub lengths : Filled (fieldIn bank 1) 192 (s .lengths)
   pub sent : Filled (timeIn bank) 192 (s .sent)
   pub marks : Filled (fieldIn bank 3) 192 (s .marks)
+  pub resent : Filled (fieldIn bank 4) 192 (s .resent)

@@ -1,4 +1,4 @@
-// The sender of the registers: its ten numbers, and its 192 places with four numbers each; and what calls on a receiver or a sender answer there.
+// The sender of the registers: its ten numbers, and its 192 places with five numbers each; and what calls on a receiver or a sender answer there.
 pub mod tell;
 
 ghost use mathlib.Core.Path.{_≡_};
@@ -20,6 +20,8 @@ const LENGTH: usize = 1;
 const SENT: usize = 2;
 
 const MARK: usize = 3;
+
+const RESENT: usize = 4;
 
 fn timing(bank: &Bank) -> Timing
     ensures { λ r. ⌜ r ≡ timingIn (now (bank .entry)) ⌝ }
@@ -51,7 +53,7 @@ fn column(bank: &Bank, field: usize) -> [u32; 192]
     let mut all = [0u32; 192];
     let mut i = 0;
     while i < 192 {
-        all[i] = registers::word32(bank, PLACES + 4 * i + field % 4);
+        all[i] = registers::word32(bank, PLACES + 5 * i + field % 5);
         i += 1;
     }
     all
@@ -64,7 +66,7 @@ fn times(bank: &Bank) -> [u64; 192]
     let mut all = [0u64; 192];
     let mut i = 0;
     while i < 192 {
-        all[i] = registers::value(bank, PLACES + 4 * i + SENT);
+        all[i] = registers::value(bank, PLACES + 5 * i + SENT);
         i += 1;
     }
     all
@@ -85,6 +87,7 @@ pub fn given(bank: &Bank) -> Sender
     let lengths = column(bank, LENGTH);
     let sent = times(bank);
     let marks = column(bank, MARK);
+    let resent = column(bank, RESENT);
     Sender {
         chunk: chunk,
         count: count,
@@ -96,6 +99,7 @@ pub fn given(bank: &Bank) -> Sender
         numbers: numbers,
         lengths: lengths,
         sent: sent,
+        resent: resent,
         marks: marks,
     }
 }
@@ -122,7 +126,7 @@ fn keep_timer(bank: &mut Bank, timer: Timer) {
 }
 
 fn keep_one(bank: &mut Bank, i: usize, field: usize, x: u32) {
-    registers::put(bank, PLACES + 4 * (i % 192) + field % 4, x as u64);
+    registers::put(bank, PLACES + 5 * (i % 192) + field % 5, x as u64);
 }
 
 fn keep_column(bank: &mut Bank, field: usize, all: &[u32; 192]) {
@@ -136,7 +140,7 @@ fn keep_column(bank: &mut Bank, field: usize, all: &[u32; 192]) {
 fn keep_times(bank: &mut Bank, all: &[u64; 192]) {
     let mut i = 0;
     while i < 192 {
-        registers::put(bank, PLACES + 4 * i + SENT, all[i]);
+        registers::put(bank, PLACES + 5 * i + SENT, all[i]);
         i += 1;
     }
 }
@@ -146,10 +150,12 @@ fn keep_places(bank: &mut Bank, s: Sender) {
     let lengths = s.lengths;
     let sent = s.sent;
     let marks = s.marks;
+    let resent = s.resent;
     keep_column(bank, NUMBER, &numbers);
     keep_column(bank, LENGTH, &lengths);
     keep_times(bank, &sent);
     keep_column(bank, MARK, &marks);
+    keep_column(bank, RESENT, &resent);
 }
 
 fn keep_numbers(bank: &mut Bank, s: Sender) {

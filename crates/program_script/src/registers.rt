@@ -6,7 +6,7 @@ ghost use Prim.Native.Nat.{_≤_, _%_};
 ghost use lib.ListN.{length};
 ghost use Rattle.program_script.specs.Numbers.{numberIn, nackIn, Filled};
 
-pub const NUMBERS: usize = 1792;
+pub const NUMBERS: usize = 1984;
 
 pub type Bank = [u64; NUMBERS];
 
@@ -40,7 +40,7 @@ pub const RECEIVER_STORE: usize = 67;
 pub const MARKS: usize = 512;
 
 // The sender: chunk size, slot count, next, window, 1 where it is sampled, RTT, deviation, 1 where the timer is armed, its time, the clock; its store's
-// length; its 192 places, each a number, a length, a send time and a mark.
+// length; its 192 places, each a number, a length, a send time, a mark, and 1 where the packet was sent more than once.
 pub const SENDER: usize = 72;
 
 pub const SENDER_STORE: usize = 82;

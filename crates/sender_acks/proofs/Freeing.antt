@@ -20,7 +20,7 @@ use Rattle.sender_state.proofs.Facts.{Ruled}
 use Rattle.sender_state.specs.Numbers.{numbersWhere, markedWith}
 use Rattle.sender_acks.specs.Steps.{Flags, Measures}
 use Rattle.sender_state.specs.Steps.{Tidy}
-use Rattle.sender_acks.specs.Acks.{ackedAt, ackedOf, acksRefusal, sampleOf, timedBy, grownBy, freedBy, acksLeave, acksOf}
+use Rattle.sender_acks.specs.Acks.{ackedAt, ackedOf, acksRefusal, measuredBy, timedBy, grownBy, freedBy, acksLeave, acksOf}
 use Rattle.sender_acks.specs.declared.Measured.{Measured}
 use Rattle.sender_state.proofs.Runs.{beyond}
 use Rattle.sender_state.proofs.Search.{tidy}
@@ -56,7 +56,7 @@ module _ (s : Sender) (row : length (s .numbers) ≡ 192) (table : length (s .ma
       }
 
   pub acks-made : (clock : ℕ) (m : Measured)
-      → Measures (sampleOf (s .numbers) (s .sent) clock) (s .timing) (s .window) (numbersWhere (s .numbers) (s .next .0) (markedWith 1 flags)) m
+      → Measures (measuredBy (s .numbers) (s .sent) (s .resent) clock) (s .timing) (s .window) (numbersWhere (s .numbers) (s .next .0) (markedWith 1 flags)) m
       → (state : Sender) → state ≡ freedBy s (m .timing) (m .window) clock (markedWith 1 flags)
       → _≡_ {A = Outcome} (record { says = values (m .count ∷ []); state = state; lent = [] })
       (record { says = values (length (ackedOf s through nacks) ∷ []); state = acksLeave s through nacks clock; lent = [] })
@@ -66,7 +66,7 @@ module _ (s : Sender) (row : length (s .numbers) ≡ 192) (table : length (s .ma
         let l = numbersWhere (s .numbers) (s .next .0) gone in
         record {
           says = values (length l ∷ []);
-          state = freedBy s (timedBy (sampleOf (s .numbers) (s .sent) clock) (s .timing) l) (grownBy (s .window) l) clock gone;
+          state = freedBy s (timedBy (measuredBy (s .numbers) (s .sent) (s .resent) clock) (s .timing) l) (grownBy (s .window) l) clock gone;
           lent = [];
         }
 

@@ -11,7 +11,6 @@ use lib.Dec.{eqb}
 use lib.ListN.{length, set, length-set}
 use lib.Seq.{getD-set-same, getD-set-other}
 use Rattle.terms.proofs.Laws.{case}
-use Rattle.timer.specs.Timer.{sampledOf}
 use Rattle.timer.specs.Window.{grownOf}
 use Rattle.timer.specs.declared.Timing.{Timing}
 use Rattle.sender_state.specs.Steps.{leastOf, Tidy}
@@ -45,17 +44,17 @@ module _ (p : ℕ → Bool) where
   flag-end flags i r h = record { long = r .long; at-place = λ k a. r .done k (omega arith) }
 
 -- the samples so far, and what is left of the numbers
-pub record Measuring (numbers flags : List ℕ) (sample : ℕ → ℕ) (next : ℕ) (timing : Timing) (window : ℕ) (m : Measured) (low : ℕ) : Type 0 where
+pub record Measuring (numbers flags : List ℕ) (measured : Timing → ℕ → Timing) (next : ℕ) (timing : Timing) (window : ℕ) (m : Measured) (low : ℕ) : Type 0 where
   pub rest : List ℕ
   pub front : Ahead (λ n. markedWith 1 flags (placeOf numbers n)) next low rest
-  pub times : timedBy sample (m .timing) rest ≡ timedBy sample timing (numbersWhere numbers next (markedWith 1 flags))
+  pub times : timedBy measured (m .timing) rest ≡ timedBy measured timing (numbersWhere numbers next (markedWith 1 flags))
   pub grows : grownBy (m .window) rest ≡ grownBy window (numbersWhere numbers next (markedWith 1 flags))
   pub counts : m .count + length rest ≡ length (numbersWhere numbers next (markedWith 1 flags))
   pub few : m .count ≤ low
 
-module _ (numbers flags : List ℕ) (sample : ℕ → ℕ) (next : ℕ) (timing : Timing) (window : ℕ) where
+module _ (numbers flags : List ℕ) (measured : Timing → ℕ → Timing) (next : ℕ) (timing : Timing) (window : ℕ) where
   pub measure-start : Tidy numbers flags 1 next → (low : ℕ) → low ≡ leastOf numbers flags 1 0 192
-      → Measuring numbers flags sample next timing window (record { timing = timing; window = window; count = 0 }) low
+      → Measuring numbers flags measured next timing window (record { timing = timing; window = window; count = 0 }) low
   measure-start tidy low e =
       let z : next - 0 ≡ next = omega arith in
       record {
@@ -67,9 +66,9 @@ module _ (numbers flags : List ℕ) (sample : ℕ → ℕ) (next : ℕ) (timing 
         few = omega arith;
       }
 
-  pub measure-more : (m : Measured) (low : ℕ) → Measuring numbers flags sample next timing window m low → Tidy numbers flags 1 next → (low ≡ 4294967295 → ⊥)
+  pub measure-more : (m : Measured) (low : ℕ) → Measuring numbers flags measured next timing window m low → Tidy numbers flags 1 next → (low ≡ 4294967295 → ⊥)
       → (after : ℕ) → after ≡ leastOf numbers flags 1 (low + 1) 192
-      → Measuring numbers flags sample next timing window (record { timing = sampledOf (m .timing) (sample low); window = grownOf (m .window); count = m .count + 1 }) after
+      → Measuring numbers flags measured next timing window (record { timing = measured (m .timing) low; window = grownOf (m .window); count = m .count + 1 }) after
   measure-more m low r tidy o after e =
       let some : low < 4294967295 = omega (arith, r .front .most, o) in
       let is = r .front .more some in
@@ -82,8 +81,8 @@ module _ (numbers flags : List ℕ) (sample : ℕ → ℕ) (next : ℕ) (timing 
         few = omega (arith, r .few, least-low numbers flags 1 (low + 1) 192 (omega arith), e);
       }
 
-  pub measure-end : (m : Measured) (low : ℕ) → Measuring numbers flags sample next timing window m low → low ≡ 4294967295
-      → Measures sample timing window (numbersWhere numbers next (markedWith 1 flags)) m
+  pub measure-end : (m : Measured) (low : ℕ) → Measuring numbers flags measured next timing window m low → low ≡ 4294967295
+      → Measures measured timing window (numbersWhere numbers next (markedWith 1 flags)) m
   measure-end m low r e =
       let is = r .front .none e in
       record {
@@ -96,8 +95,8 @@ pub flag-start : (p : ℕ → Bool) (flags : List ℕ) → length flags ≡ 192 
 flag-start p flags h = record { high = omega arith; long = h; done = λ k a. absurd (not-suc-le-zero a) }
 
 -- the place of the number in hand, and one turn with its sample
-module _ (numbers flags : List ℕ) (sample : ℕ → ℕ) (next : ℕ) (timing : Timing) (window : ℕ) (m : Measured) (low : ℕ)
-    (r : Measuring numbers flags sample next timing window m low) where
+module _ (numbers flags : List ℕ) (measured : Timing → ℕ → Timing) (next : ℕ) (timing : Timing) (window : ℕ) (m : Measured) (low : ℕ)
+    (r : Measuring numbers flags measured next timing window m low) where
   pub measure-some : (low ≡ 4294967295 → ⊥) → low < 4294967295
   measure-some o = omega (arith, r .front .most, o)
 
@@ -109,10 +108,9 @@ module _ (numbers flags : List ℕ) (sample : ℕ → ℕ) (next : ℕ) (timing 
       (λ (q : placeOf numbers low < 192 → ⊥). absurd (omega (arith, beyond flags (placeOf numbers low) 0 (omega arith), e)))
       (decLt (placeOf numbers low) 192)
 
-  pub measure-turn : Tidy numbers flags 1 next → (low ≡ 4294967295 → ⊥) → (x : ℕ) → x ≡ sample low
-      → (n : Measured) → n ≡ record { timing = sampledOf (m .timing) x; window = grownOf (m .window); count = m .count + 1 }
-      → (after : ℕ) → after ≡ leastOf numbers flags 1 (low + 1) 192 → Measuring numbers flags sample next timing window n after
-  measure-turn tidy o x e n f after g = rw (f, e) (measure-more numbers flags sample next timing window m low r tidy o after g)
+  pub measure-turn : Tidy numbers flags 1 next → (low ≡ 4294967295 → ⊥) → (n : Measured) → n ≡ record { timing = measured (m .timing) low; window = grownOf (m .window); count = m .count + 1 }
+      → (after : ℕ) → after ≡ leastOf numbers flags 1 (low + 1) 192 → Measuring numbers flags measured next timing window n after
+  measure-turn tidy o n f after g = rw f (measure-more numbers flags measured next timing window m low r tidy o after g)
 
 -- flags say of each index what they were made of
 pub flags-are : (p : ℕ → Bool) (flags : List ℕ) → Flags p flags → ((i : ℕ) → 192 ≤ i → p i ≡ false) → (i : ℕ) → markedWith 1 flags i ≡ p i

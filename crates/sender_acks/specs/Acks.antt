@@ -2,7 +2,7 @@
 use Prim.Native.Nat.{ℕ, _-_, min}
 use mathlib.Core.Bool.{Bool, _&&_, not}
 use mathlib.Core.List.{List, [], _∷_}
-use lib.Dec.{leb, ltb}
+use lib.Dec.{leb, ltb, eqb}
 use lib.ListN.{length}
 use Rattle.terms.specs.Ladder.{_when_else_}
 use Rattle.terms.specs.Lists.{all}
@@ -10,7 +10,8 @@ use Rattle.terms.specs.Answers.{Said, refusal, values, _unlessRefused_else_}
 use Rattle.timer.specs.Timer.{sampledOf}
 use Rattle.timer.specs.Window.{grownOf}
 use Rattle.timer.specs.declared.Timing.{Timing}
-use Rattle.sender_state.specs.Table.{_!_, isFlying, differs, placeOf, replaced}
+use Rattle.sender_state.specs.Table.{_!_, isFlying, differs, placeOf}
+use Rattle.sender_state.specs.Places.{placesOf, freeing, stateOf}
 use Rattle.sender_state.specs.Rules.{rules, countsFit, clockWrong}
 use Rattle.sender_state.specs.Answers.{Outcome, saidTally}
 use Rattle.sender_state.specs.declared.Sender.{Sender}
@@ -47,10 +48,16 @@ acksRefusal s through nackCount clock =
 abbrev pub sampleOf : List ℕ → List ℕ → ℕ → ℕ → ℕ
 sampleOf numbers sent clock n = min (clock - (sent ! placeOf numbers n)) 4294967295
 
+-- what a number's sample makes of the timing; a packet that was sent more than once gives none (document 02, request [5]: Karn's rule)
+abbrev pub measuredBy : List ℕ → List ℕ → List ℕ → ℕ → Timing → ℕ → Timing
+measuredBy numbers sent resent clock timing n =
+    timing when eqb (resent ! placeOf numbers n) 1 else
+    sampledOf timing (sampleOf numbers sent clock n)
+
 -- for each, in order: smooth; then the window grows
-abbrev pub timedBy : (ℕ → ℕ) → Timing → List ℕ → Timing
-timedBy sample timing [] = timing
-timedBy sample timing (n ∷ l) = timedBy sample (sampledOf timing (sample n)) l
+abbrev pub timedBy : (Timing → ℕ → Timing) → Timing → List ℕ → Timing
+timedBy measured timing [] = timing
+timedBy measured timing (n ∷ l) = timedBy measured (measured timing n) l
 
 abbrev pub grownBy : ℕ → List ℕ → ℕ
 grownBy window [] = window
@@ -58,23 +65,11 @@ grownBy window (n ∷ l) = grownBy (grownOf window) l
 
 -- a state with new timing and window at a clock, and each place that passes freed: every field 0
 abbrev pub freedBy : Sender → Timing → ℕ → ℕ → (ℕ → Bool) → Sender
-freedBy s timing window clock gone = record {
-  chunk = s .chunk;
-  count = s .count;
-  next = s .next;
-  window = window;
-  timing = timing;
-  timer = s .timer;
-  clock = clock;
-  numbers = replaced 0 gone 0 (s .numbers);
-  lengths = replaced 0 gone 0 (s .lengths);
-  sent = replaced 0 gone 0 (s .sent);
-  marks = replaced 0 gone 0 (s .marks);
-}
+freedBy s timing window clock gone = stateOf (s .chunk) (s .count) (s .next .0) window timing (s .timer) clock (freeing (placesOf s) gone)
 
 abbrev pub acksLeave : Sender → ℕ → List ℕ → ℕ → Sender
 acksLeave s through nacks clock =
-    freedBy s (timedBy (sampleOf (s .numbers) (s .sent) clock) (s .timing) (ackedOf s through nacks)) (grownBy (s .window) (ackedOf s through nacks)) clock
+    freedBy s (timedBy (measuredBy (s .numbers) (s .sent) (s .resent) clock) (s .timing) (ackedOf s through nacks)) (grownBy (s .window) (ackedOf s through nacks)) clock
     (ackedAt (s .numbers) (s .marks) through nacks)
 
 -- the whole outcome; nothing is lent to change

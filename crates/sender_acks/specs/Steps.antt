@@ -16,7 +16,7 @@ pub record Flags (p : ℕ → Bool) (flags : List ℕ) : Type 0 where
   pub at-place : (i : ℕ) → i < 192 → flags ! i ≡ oneIf (p i)
 
 -- what the samples make of timing and window, and how many there are
-pub record Measures (sample : ℕ → ℕ) (timing : Timing) (window : ℕ) (l : List ℕ) (m : Measured) : Type 0 where
-  pub times : m .timing ≡ timedBy sample timing l
+pub record Measures (measured : Timing → ℕ → Timing) (timing : Timing) (window : ℕ) (l : List ℕ) (m : Measured) : Type 0 where
+  pub times : m .timing ≡ timedBy measured timing l
   pub grows : m .window ≡ grownBy window l
   pub counts : m .count ≡ length l

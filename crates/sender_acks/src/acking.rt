@@ -11,7 +11,9 @@ ghost use mathlib.Core.Path.{_≡_};
 ghost use mathlib.Core.Bool.{true};
 ghost use mathlib.Core.List.{[], _∷_};
 ghost use Prim.Native.Nat.{_+_, _-_, _<_, min};
+ghost use lib.Dec.{eqb};
 ghost use lib.ListN.{length};
+ghost use Rattle.terms.specs.Ladder.{_when_else_};
 ghost use Rattle.terms.specs.Answers.{values, said};
 ghost use Rattle.sender_state.specs.Rules.{rules};
 ghost use Rattle.timer.specs.Timer.{sampledOf};
@@ -20,7 +22,7 @@ ghost use Rattle.sender_state.specs.Table.{oneIf};
 ghost use Rattle.sender_state.specs.Numbers.{numbersWhere, markedWith};
 ghost use Rattle.sender_state.specs.Steps.{Tidy};
 ghost use Rattle.sender_acks.specs.Steps.{Flags, Measures};
-ghost use Rattle.sender_acks.specs.Acks.{isAcked, ackedAt, acksRefusal, sampleOf, freedBy, ackedOf, acksLeave, ackedOut};
+ghost use Rattle.sender_acks.specs.Acks.{isAcked, ackedAt, acksRefusal, measuredBy, freedBy, ackedOf, acksLeave, ackedOut};
 
 // 1 where a packet is acknowledged. The NACKs are searched only for a number in flight that ack-through reaches.
 fn acked_flag(number: u32, mark: u32, through: u32, nacks: &[u32]) -> u32
@@ -75,14 +77,15 @@ fn sample(clock: u64, sent: u64) -> u32
 fn measure<'a>(
     numbers: &'a [u32],
     sent: &'a [u64],
+    resent: &'a [u32],
     flags: &'a [u32],
     timing: Timing,
     window: u32,
     clock: u64,
     next: u32,
 ) -> Measured
-    requires { ⌜ Tidy (now numbers) (now flags) 1 next × (length (now sent) ≡ 192) ⌝ }
-    ensures { λ r. ⌜ Measures (sampleOf (now (numbers .entry)) (now (sent .entry)) clock) timing window
+    requires { ⌜ Tidy (now numbers) (now flags) 1 next × (length (now sent) ≡ 192) × (length (now resent) ≡ 192) ⌝ }
+    ensures { λ r. ⌜ Measures (measuredBy (now (numbers .entry)) (now (sent .entry)) (now (resent .entry)) clock) timing window
         (numbersWhere (now (numbers .entry)) next (markedWith 1 (now (flags .entry)))) r ⌝ }
 {
     let mut m = Measured {
@@ -93,19 +96,29 @@ fn measure<'a>(
     let mut low = sender_state::least(numbers, flags, 1, 0);
     while low != 4294967295 {
         let at = sender_state::place_of(numbers, low);
-        m = measure_one(m, sample(clock, sent[at]));
+        m = measure_one(m, sample(clock, sent[at]), resent[at]);
         low = sender_state::least(numbers, flags, 1, low + 1);
     }
     m
 }
 
-// One sample more.
-fn measure_one(m: Measured, sample: u32) -> Measured
+// The timing with one sample more, unless the packet was sent more than once: an ack may be for its first copy, so its age says nothing.
+fn timed(timing: Timing, sample: u32, resent: u32) -> Timing
+    ensures { λ r. ⌜ r ≡ (timing when eqb resent 1 else sampledOf timing sample) ⌝ }
+{
+    if resent == 1 {
+        return timing;
+    }
+    timing.sampled(sample)
+}
+
+// One packet more.
+fn measure_one(m: Measured, sample: u32, resent: u32) -> Measured
     requires { ⌜ m .count < 4294967295 ⌝ }
-    ensures { λ r. ⌜ r ≡ record { timing = sampledOf (m .timing) sample; window = grownOf (m .window); count = m .count + 1 } ⌝ }
+    ensures { λ r. ⌜ r ≡ record { timing = m .timing when eqb resent 1 else sampledOf (m .timing) sample; window = grownOf (m .window); count = m .count + 1 } ⌝ }
 {
     let timing = m.timing;
-    let after = timing.sampled(sample);
+    let after = timed(timing, sample, resent);
     let grown = timer::window_grown(m.window);
     Measured {
         timing: after,
@@ -150,6 +163,8 @@ fn freed(s: Sender, flags: [u32; 192], timing: Timing, window: u32, clock: u64) 
     table::replace32(&mut lengths, &flags, 0);
     let mut sent = s.sent;
     table::replace64(&mut sent, &flags, 0);
+    let mut resent = s.resent;
+    table::replace32(&mut resent, &flags, 0);
     let mut marks = s.marks;
     table::replace32(&mut marks, &flags, 0);
     let next = s.next;
@@ -165,6 +180,7 @@ fn freed(s: Sender, flags: [u32; 192], timing: Timing, window: u32, clock: u64) 
         numbers: numbers,
         lengths: lengths,
         sent: sent,
+        resent: resent,
         marks: marks,
     }
 }
@@ -182,7 +198,9 @@ pub(super) fn acks_done(s: Sender, through: u32, nacks: &[u32], clock: u64) -> A
     let timing = s.timing;
     let window = s.window;
     let next = s.next.0;
-    let m = measure(&s.numbers, &s.sent, &flags, timing, window, clock, next);
+    let m = measure(
+        &s.numbers, &s.sent, &s.resent, &flags, timing, window, clock, next,
+    );
     let smoothed = m.timing;
     let grown = m.window;
     let count = m.count;

@@ -17,15 +17,15 @@ pub struct Acked {
     pub state: Sender,
 }
 
-// What the samples of acknowledged packets make of timing and window, and how many there were.
+// What acknowledged packets make of timing and window, and how many there were.
 pub struct Measured {
     pub timing: Timing,
     pub window: u32,
     pub count: u32,
 }
 
-// Takes every number at most ack-through and not NACKed out of flight, ascending, and measures each. Ports `handle_acks`. It leaves
-// the timer.
+// Takes every number at most ack-through and not NACKed out of flight, ascending. Each grows the window, and is measured unless it was
+// sent more than once. Ports `handle_acks`, mended by Karn's rule (RFC 6298, section 3). It leaves the timer.
 pub fn acks(s: Sender, ack_through: SeqNo, nacks: &[u32], clock: u64) -> Acked
     ensures { λ r. ⌜ ackedOut r ≡ acksOf s («ack_through» .0) (now (nacks .entry)) clock ⌝ }
 {

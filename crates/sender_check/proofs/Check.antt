@@ -12,7 +12,10 @@ use Rattle.terms.specs.Lists.{all}
 use Rattle.terms.proofs.Laws.{case, bool-iff, and-left, and-right, all-at, all-of, rung-passed, or-of}
 use Rattle.timer.specs.Timer.{timingFits}
 use Rattle.sender_state.specs.Table.{_!_, differs, countOf}
-use Rattle.sender_check.specs.Steps.{every, aloneAt, placeHolds, placeAt}
+use Rattle.sender_check.specs.Steps.{every, aloneAt, placeHolds, holdsAt}
+use Rattle.sender_check.specs.declared.Limits.{Limits}
+use Rattle.sender_state.specs.Places.{placesOf, placeAt}
+use Rattle.sender_state.specs.declared.Place.{Place}
 use Rattle.sender_state.specs.Steps.{leastOf}
 use Rattle.sender_state.specs.Rules.{timerFits, rules}
 use Rattle.sender_state.specs.declared.Sender.{Sender}
@@ -21,37 +24,60 @@ use Rattle.sender_state.proofs.Folds.{least-at, least-there}
 use Rattle.sender_state.proofs.Facts.{unless-at, Ruled, ruled, rules-of}
 
 -- what one place's test says
-record Held (chunk count next bound clock i number size sent mark : ℕ) : Type 0 where
-  no-number : mark ≡ 0 → number ≡ 0
-  no-size : mark ≡ 0 → size ≡ 0
-  no-time : mark ≡ 0 → sent ≡ 0
-  inside : (mark ≡ 0 → ⊥) → i < count
-  some : (mark ≡ 0 → ⊥) → 1 ≤ number
-  long : (mark ≡ 0 → ⊥) → 22 ≤ size
-  short : (mark ≡ 0 → ⊥) → size ≤ chunk + 1044
-  not-sent : mark ≡ 1 → sent ≡ 0
-  low : mark ≡ 1 → number < next
-  known : mark ≤ 2
-  lower : mark ≡ 2 → number < bound
-  past : mark ≡ 2 → sent ≤ clock
+record Held (l : Limits) (i : ℕ) (p : Place) : Type 0 where
+  no-number : p .mark ≡ 0 → p .number .0 ≡ 0
+  no-size : p .mark ≡ 0 → p .size ≡ 0
+  no-time : p .mark ≡ 0 → p .sent ≡ 0
+  no-resent : p .mark ≡ 0 → p .resent ≡ 0
+  inside : (p .mark ≡ 0 → ⊥) → i < l .count
+  some : (p .mark ≡ 0 → ⊥) → 1 ≤ p .number .0
+  long : (p .mark ≡ 0 → ⊥) → 22 ≤ p .size
+  short : (p .mark ≡ 0 → ⊥) → p .size ≤ l .chunk + 1044
+  once-or-more : p .resent ≤ 1
+  not-sent : p .mark ≡ 1 → p .sent ≡ 0
+  unresent : p .mark ≡ 1 → p .resent ≡ 0
+  low : p .mark ≡ 1 → p .number .0 < l .next .0
+  known : p .mark ≤ 2
+  lower : p .mark ≡ 2 → p .number .0 < l .bound .0
+  past : p .mark ≡ 2 → p .sent ≤ l .clock
 
-module _ (chunk count next bound clock i number size sent mark : ℕ) where
-  held : placeHolds chunk count next bound clock i number size sent mark ≡ true → Held chunk count next bound clock i number size sent mark
+module _ (l : Limits) (i : ℕ) (p : Place) where
+  abbrev mark : ℕ
+  mark = p .mark
+
+  abbrev number : ℕ
+  number = p .number .0
+
+  abbrev size : ℕ
+  size = p .size
+
+  abbrev sent : ℕ
+  sent = p .sent
+
+  abbrev resent : ℕ
+  resent = p .resent
+
+  held : placeHolds l i p ≡ true → Held l i p
   unfolding placeHolds
   held t =
       case
       (λ (z : mark ≡ 0).
-      let u : (eqb number 0 && (eqb size 0 && eqb sent 0)) ≡ true = rw (eq-eqb mark 0 z) at t in
+      let u : (eqb number 0 && (eqb size 0 && (eqb sent 0 && eqb resent 0))) ≡ true = rw (eq-eqb mark 0 z) at t in
       let v = and-right (eqb number 0) _ u in
+      let w = and-right (eqb size 0) _ v in
+      let none = eqb-true _ _ (and-right (eqb sent 0) (eqb resent 0) w) in
       record {
         no-number = λ _. eqb-true _ _ (and-left (eqb number 0) _ u);
         no-size = λ _. eqb-true _ _ (and-left (eqb size 0) _ v);
-        no-time = λ _. eqb-true _ _ (and-right (eqb size 0) (eqb sent 0) v);
+        no-time = λ _. eqb-true _ _ (and-left (eqb sent 0) _ w);
+        no-resent = λ _. none;
         inside = λ n. absurd (n z);
         some = λ n. absurd (n z);
         long = λ n. absurd (n z);
         short = λ n. absurd (n z);
+        once-or-more = omega (arith, none);
         not-sent = λ e. absurd (omega arith);
+        unresent = λ e. none;
         low = λ e. absurd (omega arith);
         known = omega arith;
         lower = λ e. absurd (omega arith);
@@ -60,62 +86,71 @@ module _ (chunk count next bound clock i number size sent mark : ℕ) where
       (λ (n : mark ≡ 0 → ⊥).
       let never : false ≡ true → ⊥ = λ e. true≢false (sym e) in
       let t1 = rw (ne-eqb mark 0 n) at t in
-      let p2 = rung-passed (leb count i) never t1 in
+      let p2 = rung-passed (leb (l .count) i) never t1 in
       let p3 = rung-passed (ltb number 1) never (p2 .1) in
       let p4 = rung-passed (ltb size 22) never (p3 .1) in
-      let p5 = rung-passed (ltb (chunk + 1044) size) never (p4 .1) in
+      let p5 = rung-passed (ltb (l .chunk + 1044) size) never (p4 .1) in
+      let p6 = rung-passed (ltb 1 resent) never (p5 .1) in
       case
       (λ (w : mark ≡ 1).
-      let u : (eqb sent 0 && ltb number next) ≡ true = rw (eq-eqb mark 1 w) at (p5 .1) in
+      let u : (eqb sent 0 && (eqb resent 0 && ltb number (l .next .0))) ≡ true = rw (eq-eqb mark 1 w) at (p6 .1) in
+      let v = and-right (eqb sent 0) _ u in
       record {
         no-number = λ z. absurd (n z);
         no-size = λ z. absurd (n z);
         no-time = λ z. absurd (n z);
+        no-resent = λ z. absurd (n z);
         inside = λ _. leb-false _ _ (p2 .0);
         some = λ _. ltb-false _ _ (p3 .0);
         long = λ _. ltb-false _ _ (p4 .0);
         short = λ _. ltb-false _ _ (p5 .0);
+        once-or-more = ltb-false _ _ (p6 .0);
         not-sent = λ _. eqb-true _ _ (and-left (eqb sent 0) _ u);
-        low = λ _. ltb-true _ _ (and-right (eqb sent 0) (ltb number next) u);
+        unresent = λ _. eqb-true _ _ (and-left (eqb resent 0) _ v);
+        low = λ _. ltb-true _ _ (and-right (eqb resent 0) (ltb number (l .next .0)) v);
         known = omega arith;
         lower = λ e. absurd (omega arith);
         past = λ e. absurd (omega arith);
       })
       (λ (o : mark ≡ 1 → ⊥).
-      let t6 = rw (ne-eqb mark 1 o) at (p5 .1) in
-      let p7 = rung-passed (ltb 2 mark) never t6 in
+      let t7 = rw (ne-eqb mark 1 o) at (p6 .1) in
+      let p8 = rung-passed (ltb 2 mark) never t7 in
       record {
         no-number = λ z. absurd (n z);
         no-size = λ z. absurd (n z);
         no-time = λ z. absurd (n z);
+        no-resent = λ z. absurd (n z);
         inside = λ _. leb-false _ _ (p2 .0);
         some = λ _. ltb-false _ _ (p3 .0);
         long = λ _. ltb-false _ _ (p4 .0);
         short = λ _. ltb-false _ _ (p5 .0);
+        once-or-more = ltb-false _ _ (p6 .0);
         not-sent = λ e. absurd (o e);
+        unresent = λ e. absurd (o e);
         low = λ e. absurd (o e);
-        known = ltb-false _ _ (p7 .0);
-        lower = λ _. ltb-true _ _ (and-left (ltb number bound) _ (p7 .1));
-        past = λ _. leb-true _ _ (and-right (ltb number bound) (leb sent clock) (p7 .1));
+        known = ltb-false _ _ (p8 .0);
+        lower = λ _. ltb-true _ _ (and-left (ltb number (l .bound .0)) _ (p8 .1));
+        past = λ _. leb-true _ _ (and-right (ltb number (l .bound .0)) (leb sent (l .clock)) (p8 .1));
       })
       (ℕ-discrete mark 1))
       (ℕ-discrete mark 0)
 
-  holds : Held chunk count next bound clock i number size sent mark → placeHolds chunk count next bound clock i number size sent mark ≡ true
+  holds : Held l i p → placeHolds l i p ≡ true
   unfolding placeHolds
   holds h =
       case
-      (λ (z : mark ≡ 0). simp (eq-eqb _ _ z, eq-eqb _ _ (h .no-number z), eq-eqb _ _ (h .no-size z), eq-eqb _ _ (h .no-time z)))
+      (λ (z : mark ≡ 0). simp (eq-eqb mark 0 z, eq-eqb number 0 (h .no-number z), eq-eqb size 0 (h .no-size z), eq-eqb sent 0 (h .no-time z), eq-eqb resent 0 (h .no-resent z)))
       (λ (n : mark ≡ 0 → ⊥).
-      let t2 = lt-leb count i (h .inside n) in
+      let t2 = lt-leb (l .count) i (h .inside n) in
       let t3 = le-ltb number 1 (h .some n) in
       let t4 = le-ltb size 22 (h .long n) in
-      let t5 = le-ltb (chunk + 1044) size (h .short n) in
+      let t5 = le-ltb (l .chunk + 1044) size (h .short n) in
+      let t6 = le-ltb 1 resent (h .once-or-more) in
       case
-      (λ (w : mark ≡ 1). simp (ne-eqb _ _ n, t2, t3, t4, t5, eq-eqb _ _ w, eq-eqb _ _ (h .not-sent w), lt-ltb _ _ (h .low w)))
+      (λ (w : mark ≡ 1). simp (ne-eqb mark 0 n, t2, t3, t4, t5, t6, eq-eqb mark 1 w, eq-eqb sent 0 (h .not-sent w), eq-eqb resent 0 (h .unresent w), lt-ltb _ _ (h .low w)))
       (λ (o : mark ≡ 1 → ⊥).
       let f : mark ≡ 2 = omega (arith, h .known, n, o) in
-      simp (ne-eqb _ _ n, t2, t3, t4, t5, ne-eqb _ _ o, le-ltb 2 mark (h .known), lt-ltb _ _ (h .lower f), le-leb _ _ (h .past f)))
+      simp (ne-eqb mark 0 n, t2, t3, t4, t5, t6, ne-eqb mark 1 o, le-ltb 2 mark (h .known), lt-ltb _ _ (h .lower f), le-leb _ _ (h .past f)))
       (ℕ-discrete mark 1))
       (ℕ-discrete mark 0)
 
@@ -155,23 +190,29 @@ module _ (s : Sender) (table : length (s .marks) ≡ 192) (row : length (s .numb
   abbrev bound : ℕ
   bound = min (leastOf (s .numbers) (s .marks) 1 0 192) (s .next .0)
 
+  abbrev limits : Limits
+  limits = record { chunk = s .chunk; count = s .count; next = s .next; bound = record { 0 = bound }; clock = s .clock }
+
   abbrev test : ℕ → Bool
-  test = placeAt (s .chunk) (s .count) (s .next .0) bound (s .clock) (s .numbers) (s .lengths) (s .sent) (s .marks)
+  test = holdsAt limits (placesOf s)
 
   pub tests-of : s .next .0 ≤ 4294967295 → Ruled s → every 192 test ≡ true
   tests-of width r =
       every-of test 192
       (λ i h.
-      holds (s .chunk) (s .count) (s .next .0) bound (s .clock) i (s .numbers ! i) (s .lengths ! i) (s .sent ! i) (s .marks ! i)
+      holds limits i (placeAt s i)
       (record {
         no-number = r .no-number i (omega arith);
         no-size = r .no-length i (omega arith);
         no-time = r .no-time i (omega arith);
+        no-resent = r .no-resent i (omega arith);
         inside = λ n. case (λ (q : i < s .count). q) (λ (q : i < s .count → ⊥). absurd (n (r .shut i (omega arith) (omega arith)))) (decLt i (s .count));
         some = r .some i (omega arith);
         long = r .long i (omega arith);
         short = r .short i (omega arith);
+        once-or-more = r .once-or-more i (omega arith);
         not-sent = r .not-sent i (omega arith);
+        unresent = r .unresent i (omega arith);
         low = λ w. r .low i (omega arith) (λ z. omega arith);
         known = r .known i (omega arith);
         lower = λ f.
@@ -190,8 +231,8 @@ module _ (s : Sender) (table : length (s .marks) ≡ 192) (row : length (s .numb
       (timing : timingFits (s .timing) ≡ true) (clock-most : s .clock ≤ 1000000000000000) where
     ruled-by : every 192 test ≡ true → Ruled s
     ruled-by t =
-        let f : (i : ℕ) → i < length (s .marks) → Held (s .chunk) (s .count) (s .next .0) bound (s .clock) i (s .numbers ! i) (s .lengths ! i) (s .sent ! i) (s .marks ! i) =
-        λ i h. held (s .chunk) (s .count) (s .next .0) bound (s .clock) i (s .numbers ! i) (s .lengths ! i) (s .sent ! i) (s .marks ! i) (every-at test 192 t i (omega arith)) in
+        let f : (i : ℕ) → i < length (s .marks) → Held limits i (placeAt s i) =
+        λ i h. held limits i (placeAt s i) (every-at test 192 t i (omega arith)) in
         let least : (j : ℕ) → j < length (s .marks) → s .marks ! j ≡ 1 → leastOf (s .numbers) (s .marks) 1 0 192 ≤ s .numbers ! j =
         λ j k w. least-at (s .numbers) (s .marks) 1 0 192 j (omega arith) w (omega arith) in
         record {
@@ -211,6 +252,7 @@ module _ (s : Sender) (table : length (s .marks) ≡ 192) (row : length (s .numb
           no-number = λ i h. f i h .no-number;
           no-length = λ i h. f i h .no-size;
           no-time = λ i h. f i h .no-time;
+          no-resent = λ i h. f i h .no-resent;
           not-sent = λ i h. f i h .not-sent;
           few = few;
           past = λ i h.
@@ -229,7 +271,9 @@ module _ (s : Sender) (table : length (s .marks) ≡ 192) (row : length (s .numb
           long = λ i h. f i h .long;
           short = λ i h. f i h .short;
           clock-most = clock-most;
+          unresent = λ i h. f i h .unresent;
           known = λ i h. f i h .known;
+          once-or-more = λ i h. f i h .once-or-more;
         }
 
     -- what is left once all else has passed

@@ -2,4 +2,5 @@
 pub mod Every
 pub mod Buckets
 pub mod Check
+pub mod Rungs
 pub mod Determined

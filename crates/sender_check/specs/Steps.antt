@@ -6,7 +6,11 @@ use lib.Dec.{leb, ltb, eqb}
 use lib.ListN.{take}
 use Rattle.terms.specs.Ladder.{_when_else_}
 use Rattle.terms.specs.Lists.{all}
-use Rattle.sender_state.specs.Table.{_!_, _unless_, differs}
+use Rattle.sender_state.specs.Table.{_!_, _unless_, isFree, isWaiting, differs}
+use Rattle.sender_state.specs.Places.{Places, placeIn}
+use Rattle.sender_state.specs.Rules.{isEmptied}
+use Rattle.sender_state.specs.declared.Place.{Place}
+use Rattle.sender_check.specs.declared.Limits.{Limits}
 
 -- the test p passes at each index below n
 unfoldable pub every : ℕ → (ℕ → Bool) → Bool
@@ -18,17 +22,18 @@ unfoldable pub aloneAt : List ℕ → ℕ → Bool
 aloneAt numbers i = all (differs (numbers ! i)) (take i numbers) unless eqb (numbers ! i) 0
 
 -- the rules of one place together, as the code tests them: bound is next, or the lowest waiting number where that is below it
-unfoldable pub placeHolds : ℕ → ℕ → ℕ → ℕ → ℕ → ℕ → ℕ → ℕ → ℕ → ℕ → Bool
-placeHolds chunk count next bound clock i number size sent mark =
-    (eqb number 0 && (eqb size 0 && eqb sent 0)) when eqb mark 0 else
-    false when leb count i else
-    false when ltb number 1 else
-    false when ltb size 22 else
-    false when ltb (chunk + 1044) size else
-    (eqb sent 0 && ltb number next) when eqb mark 1 else
-    false when ltb 2 mark else
-    (ltb number bound && leb sent clock)
+unfoldable pub placeHolds : Limits → ℕ → Place → Bool
+placeHolds l i p =
+    isEmptied p when isFree (p .mark) else
+    false when leb (l .count) i else
+    false when ltb (p .number .0) 1 else
+    false when ltb (p .size) 22 else
+    false when ltb (l .chunk + 1044) (p .size) else
+    false when ltb 1 (p .resent) else
+    (eqb (p .sent) 0 && (eqb (p .resent) 0 && ltb (p .number .0) (l .next .0))) when isWaiting (p .mark) else
+    false when ltb 2 (p .mark) else
+    (ltb (p .number .0) (l .bound .0) && leb (p .sent) (l .clock))
 
-abbrev pub placeAt : ℕ → ℕ → ℕ → ℕ → ℕ → List ℕ → List ℕ → List ℕ → List ℕ → ℕ → Bool
-placeAt chunk count next bound clock numbers lengths sent marks i =
-    placeHolds chunk count next bound clock i (numbers ! i) (lengths ! i) (sent ! i) (marks ! i)
+-- and of the place at an index
+abbrev pub holdsAt : Limits → Places → ℕ → Bool
+holdsAt l p i = placeHolds l i (placeIn p i)

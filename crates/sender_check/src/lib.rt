@@ -4,11 +4,23 @@ ghost use mathlib.Core.Bool.{true};
 ghost use Prim.Native.Nat.{_≤_, _<_};
 ghost use lib.ListN.{length};
 ghost use Rattle.timer.specs.Timer.{timingFits};
-ghost use Rattle.sender_state.specs.Rules.{stateOf, timerFits, rules};
-ghost use Rattle.sender_check.specs.Steps.{every, aloneAt, placeHolds, placeAt};
+ghost use Rattle.sender_state.specs.Places.{stateOf};
+ghost use Rattle.sender_state.specs.Rules.{timerFits, rules};
+ghost use Rattle.sender_check.specs.Steps.{every, aloneAt, placeHolds, holdsAt};
+use sender_state::Place;
 use sender_state::Sender;
 use sender_state::Timer;
+use terms::SeqNo;
 use timer::Timing;
+
+// What the rules of a place are judged by. The bound is next, or the lowest waiting number where that is below it.
+pub struct Limits {
+    pub chunk: u32,
+    pub count: u32,
+    pub next: SeqNo,
+    pub bound: SeqNo,
+    pub clock: u64,
+}
 
 // Whether the number at index i is 0 or stands at no index below.
 fn alone(numbers: &[u32], i: usize) -> bool
@@ -58,74 +70,60 @@ fn all_alone(numbers: &[u32]) -> bool
 }
 
 // Whether one place keeps its own rules. The lengths are compared in 64 bits: the chunk size may be any number here.
-fn place_holds(
-    chunk: u32,
-    count: u32,
-    next: u32,
-    bound: u32,
-    clock: u64,
-    i: usize,
-    number: u32,
-    size: u32,
-    sent: u64,
-    mark: u32,
-) -> bool
-    ensures { λ r. ⌜ r ≡ placeHolds chunk count next bound clock i number size sent mark ⌝ }
+fn place_holds(l: Limits, i: usize, p: Place) -> bool
+    ensures { λ r. ⌜ r ≡ placeHolds l i p ⌝ }
 {
-    if mark == 0 {
-        return (number == 0) & ((size == 0) & (sent == 0));
+    if p.mark == 0 {
+        return (p.number.0 == 0) & ((p.size == 0) & ((p.sent == 0) & (p.resent == 0)));
     }
-    if i >= count as usize {
+    if i >= l.count as usize {
         return false;
     }
-    if number < 1 {
+    if p.number.0 < 1 {
         return false;
     }
-    if size < 22 {
+    if p.size < 22 {
         return false;
     }
-    if size as u64 > chunk as u64 + 1044 {
+    if p.size as u64 > l.chunk as u64 + 1044 {
         return false;
     }
-    if mark == 1 {
-        return (sent == 0) & (number < next);
-    }
-    if mark > 2 {
+    if p.resent > 1 {
         return false;
     }
-    (number < bound) & (sent <= clock)
+    if p.mark == 1 {
+        return (p.sent == 0) & ((p.resent == 0) & (p.number.0 < l.next.0));
+    }
+    if p.mark > 2 {
+        return false;
+    }
+    (p.number.0 < l.bound.0) & (p.sent <= l.clock)
 }
 
 // Whether each place keeps its own rules.
 fn places_hold<'a>(
-    chunk: u32,
-    count: u32,
-    next: u32,
-    bound: u32,
-    clock: u64,
+    limits: Limits,
     numbers: &'a [u32],
     lengths: &'a [u32],
     sent: &'a [u64],
+    resent: &'a [u32],
     marks: &'a [u32],
 ) -> bool
-    requires { ⌜ (length (now numbers) ≡ 192) × (length (now lengths) ≡ 192) × (length (now sent) ≡ 192) × (length (now marks) ≡ 192) ⌝ }
-    ensures { λ r. ⌜ r ≡ every 192 (placeAt chunk count next bound clock (now (numbers .entry)) (now (lengths .entry)) (now (sent .entry)) (now (marks .entry))) ⌝ }
+    requires { ⌜ (length (now numbers) ≡ 192) × (length (now lengths) ≡ 192) × (length (now sent) ≡ 192) × (length (now resent) ≡ 192) × (length (now marks) ≡ 192) ⌝ }
+    ensures { λ r. ⌜ r ≡ every 192 (holdsAt limits (record { numbers = now (numbers .entry); lengths = now (lengths .entry); sent = now (sent .entry); resent = now (resent .entry); marks = now (marks .entry) })) ⌝ }
 {
     let mut ok = true;
     let mut i = 0;
     while i < 192 {
-        let one = place_holds(
-            chunk,
-            count,
-            next,
-            bound,
-            clock,
-            i,
-            numbers[i],
-            lengths[i],
-            sent[i],
-            marks[i],
-        );
+        let number = SeqNo(numbers[i]);
+        let place = Place {
+            number: number,
+            size: lengths[i],
+            sent: sent[i],
+            resent: resent[i],
+            mark: marks[i],
+        };
+        let one = place_holds(limits, i, place);
         ok = ok & one;
         i += 1;
     }
@@ -160,7 +158,7 @@ fn timing_fits(timing: Timing) -> bool
 fn rules_hold<'a>(
     chunk: u32,
     count: u32,
-    next: u32,
+    next: SeqNo,
     window: u32,
     timing: Timing,
     timer: Timer,
@@ -168,13 +166,14 @@ fn rules_hold<'a>(
     numbers: &'a [u32],
     lengths: &'a [u32],
     sent: &'a [u64],
+    resent: &'a [u32],
     marks: &'a [u32],
 ) -> bool
-    requires { ⌜ (length (now numbers) ≡ 192) × (length (now lengths) ≡ 192) × (length (now sent) ≡ 192) × (length (now marks) ≡ 192) ⌝ }
-    ensures { λ r. ⌜ r ≡ rules (stateOf chunk count next window timing timer clock
-        (now (numbers .entry)) (now (lengths .entry)) (now (sent .entry)) (now (marks .entry))) ⌝ }
+    requires { ⌜ (length (now numbers) ≡ 192) × (length (now lengths) ≡ 192) × (length (now sent) ≡ 192) × (length (now resent) ≡ 192) × (length (now marks) ≡ 192) ⌝ }
+    ensures { λ r. ⌜ r ≡ rules (stateOf chunk count (next .0) window timing timer clock (record {
+        numbers = now (numbers .entry); lengths = now (lengths .entry); sent = now (sent .entry); resent = now (resent .entry); marks = now (marks .entry) })) ⌝ }
 {
-    if next < 1 {
+    if next.0 < 1 {
         return false;
     }
     if window < 1 {
@@ -198,18 +197,15 @@ fn rules_hold<'a>(
     if !all_alone(numbers) {
         return false;
     }
-    let bound = sender_state::smaller(sender_state::least(numbers, marks, 1, 0), next);
-    places_hold(
-        chunk,
-        count,
-        next,
-        bound,
-        clock,
-        numbers,
-        lengths,
-        sent,
-        marks,
-    )
+    let bound = SeqNo(sender_state::smaller(sender_state::least(numbers, marks, 1, 0), next.0));
+    let limits = Limits {
+        chunk: chunk,
+        count: count,
+        next: next,
+        bound: bound,
+        clock: clock,
+    };
+    places_hold(limits, numbers, lengths, sent, resent, marks)
 }
 
 // The same of a state by value: what each call asks first.
@@ -218,7 +214,7 @@ pub fn valid(s: Sender) -> bool
 {
     let chunk = s.chunk;
     let count = s.count;
-    let next = s.next.0;
+    let next = s.next;
     let window = s.window;
     let timing = s.timing;
     let timer = s.timer;
@@ -234,6 +230,7 @@ pub fn valid(s: Sender) -> bool
         &s.numbers,
         &s.lengths,
         &s.sent,
+        &s.resent,
         &s.marks,
     )
 }

@@ -17,7 +17,7 @@ use Rattle.sender_state.specs.Table.{isFlying, placeOf}
 use Rattle.sender_state.specs.Rules.{rules, countsFit, clockWrong}
 use Rattle.sender_state.specs.Answers.{Outcome}
 use Rattle.sender_state.specs.declared.Sender.{Sender}
-use Rattle.sender_acks.specs.Acks.{ackedAt, ackedOf, acksRefusal, sampleOf, timedBy, grownBy, acksLeave, acksOf}
+use Rattle.sender_acks.specs.Acks.{ackedAt, ackedOf, acksRefusal, measuredBy, timedBy, grownBy, acksLeave, acksOf}
 use Rattle.sender_resend.specs.Resend.{isIn}
 use Rattle.sender_state.proofs.Facts.{clock-fair}
 use Rattle.sender_meaning.specs.Meaning.{markOf, standing, doesFly, Sound}
@@ -26,7 +26,7 @@ use Rattle.sender_meaning.specs.Changes.{LeavesFlight}
 use Rattle.sender_meaning.proofs.Counts.{by-bool, fair-rung, run-has, run-ascending}
 use Rattle.sender_meaning.proofs.Stands.{facts, marked-is, flies-told, counts-fit}
 use Rattle.sender_meaning.proofs.Moves.{later-fits}
-use Rattle.sender_meaning.proofs.Frees.{timed-fits, grown-fits, freed-sound, freed-means}
+use Rattle.sender_meaning.proofs.Frees.{measured-fits, timed-fits, grown-fits, freed-sound, freed-means}
 
 -- acknowledged are the numbers that fly, are at most ack-through and not NACKed
 pub acked-is : (s : Sender) (store : List ℕ) → Sound s store → (through : ℕ) (nacks : List ℕ) (n : ℕ)
@@ -102,14 +102,14 @@ module _ (s : Sender) (through : ℕ) (nacks : List ℕ) (clock : ℕ) where
           let r = facts s store sound in
           let w = grown-fits (s .window) (ackedOf s through nacks) (r .window-some) (r .window-most) in
           freed-sound s store sound (ackedAt (s .numbers) (s .marks) through nacks)
-          (timedBy (sampleOf (s .numbers) (s .sent) clock) (s .timing) (ackedOf s through nacks)) (grownBy (s .window) (ackedOf s through nacks)) clock
+          (timedBy (measuredBy (s .numbers) (s .sent) (s .resent) clock) (s .timing) (ackedOf s through nacks)) (grownBy (s .window) (ackedOf s through nacks)) clock
           (passed .later) (passed .most) (later-fits (s .timer) (s .clock) clock (r .due) (passed .later))
-          (timed-fits (sampleOf (s .numbers) (s .sent) clock) (λ n. omega arith) (s .timing) (ackedOf s through nacks) (r .timing)) (w .0) (w .1)
+          (timed-fits (measuredBy (s .numbers) (s .sent) (s .resent) clock) (measured-fits (s .numbers) (s .sent) (s .resent) clock) (s .timing) (ackedOf s through nacks) (r .timing)) (w .0) (w .1)
 
       leave-means : (n : ℕ) → standing (acksLeave s through nacks clock) store n ≡ ackedAs through nacks n (standing s store n)
       leave-means =
           freed-means s store sound through nacks
-          (timedBy (sampleOf (s .numbers) (s .sent) clock) (s .timing) (ackedOf s through nacks)) (grownBy (s .window) (ackedOf s through nacks)) clock leave-sound
+          (timedBy (measuredBy (s .numbers) (s .sent) (s .resent) clock) (s .timing) (ackedOf s through nacks)) (grownBy (s .window) (ackedOf s through nacks)) clock leave-sound
 
     pub acks-changes : (given : List ℕ) → acksOf s through nacks clock .says ≡ values given → LeavesFlight s through nacks clock store given
     acks-changes given done =

@@ -12,8 +12,9 @@ use Rattle.terms.specs.Lists.{all}
 use Rattle.terms.proofs.Laws.{case, and-left, and-right, and-both}
 use Rattle.timer.specs.Timer.{timingFits, rtoOf}
 use Rattle.timer.specs.declared.Timing.{Timing}
-use Rattle.sender_state.specs.Table.{_!_, isFlying, differs, placeOf, replaced}
-use Rattle.sender_state.specs.Rules.{timerFits, stateOf}
+use Rattle.sender_state.specs.Table.{_!_, isFlying, differs, placeOf}
+use Rattle.sender_state.specs.Places.{placesOf, stamping, stateOf}
+use Rattle.sender_state.specs.Rules.{timerFits}
 use Rattle.sender_state.specs.declared.Sender.{Sender}
 use Rattle.sender_state.specs.declared.Timer.{Timer}
 use Rattle.sender_state.proofs.Facts.{Ruled, rules-of}
@@ -84,12 +85,14 @@ module _ (s : Sender) (store : List ℕ) (sound : Sound s store) where
       (λ (o : s .marks ! i ≡ 0 → ⊥). ap (λ (k : ℕ). s .marks ! k) (sym (own-place s store sound i h o)) ∙ e)
       (ℕ-discrete (s .marks ! i) 0)
 
-  -- the same table with other times
-  module _ (window : ℕ) (timing : Timing) (timer : Timer) (clock : ℕ) (sent : List ℕ) (long : length sent ≡ 192)
+  -- the same table with other times, and others sent more than once
+  module _ (window : ℕ) (timing : Timing) (timer : Timer) (clock : ℕ) (sent resent : List ℕ) (long : length sent ≡ 192) (flagged : length resent ≡ 192)
+      (once : (i : ℕ) → i < 192 → (s .marks ! i ≡ 2 → ⊥) → resent ! i ≡ s .resent ! i) (flag : (i : ℕ) → i < 192 → resent ! i ≤ 1)
       (quiet : (i : ℕ) → i < 192 → (s .marks ! i ≡ 2 → ⊥) → sent ! i ≡ s .sent ! i) (past : (i : ℕ) → i < 192 → sent ! i ≤ clock)
       (most : clock ≤ 1000000000000000) (due : timerFits timer clock ≡ true) (fits : timingFits timing ≡ true) (least : 1 ≤ window) (top : window ≤ 128) where
     abbrev pub retimed : Sender
-    retimed = stateOf (s .chunk) (s .count) (s .next .0) window timing timer clock (s .numbers) (s .lengths) sent (s .marks)
+    retimed = stateOf (s .chunk) (s .count) (s .next .0) window timing timer clock
+        (record { numbers = s .numbers; lengths = s .lengths; sent = sent; resent = resent; marks = s .marks })
 
     retimed-keeps : Ruled retimed
     retimed-keeps =
@@ -105,7 +108,10 @@ module _ (s : Sender) (store : List ℕ) (sound : Sound s store) where
           no-number = r .no-number;
           no-length = r .no-length;
           no-time = λ i h z. quiet i (omega arith) (λ e. omega arith) ∙ r .no-time i h z;
+          no-resent = λ i h z. once i (omega arith) (λ e. omega arith) ∙ r .no-resent i h z;
           not-sent = λ i h w. quiet i (omega arith) (λ e. omega arith) ∙ r .not-sent i h w;
+          unresent = λ i h w. once i (omega arith) (λ e. omega arith) ∙ r .unresent i h w;
+          once-or-more = λ i h. flag i (omega arith);
           few = r .few;
           past = λ i h. past i (omega arith);
           due = due;
@@ -123,6 +129,7 @@ module _ (s : Sender) (store : List ℕ) (sound : Sound s store) where
       numbers-long = sound .numbers-long;
       lengths-long = sound .lengths-long;
       sent-long = long;
+      resent-long = flagged;
       marks-long = sound .marks-long;
       keeps = rules-of retimed retimed-keeps;
       fits = sound .fits;
@@ -131,7 +138,7 @@ module _ (s : Sender) (store : List ℕ) (sound : Sound s store) where
 
   -- the numbers that pass fly since the clock, with the packets that they had, and every other number stands as it stood
   pub resent-means : (p : ℕ → Bool) (window : ℕ) (timing : Timing) (timer : Timer) (clock n : ℕ)
-      → standing (stateOf (s .chunk) (s .count) (s .next .0) window timing timer clock (s .numbers) (s .lengths) (replaced clock (λ i. p (s .numbers ! i)) 0 (s .sent)) (s .marks)) store n
+      → standing (stateOf (s .chunk) (s .count) (s .next .0) window timing timer clock (stamping (placesOf s) (λ i. p (s .numbers ! i)) clock)) store n
       ≡ resentAs p clock n (standing s store n)
   unfolding standing
   resent-means p window timing timer clock n =

@@ -1,30 +1,38 @@
 -- Places of acknowledged packets are freed: every field of such a place is 0, and every other place stays as it was. Assumes nothing.
-use Prim.Native.Nat.{ℕ, _≤_, _<_, _^_}
+use Prim.Native.Nat.{ℕ, _≤_, _<_}
 use mathlib.Core.Path.{_≡_, refl, sym, _∙_, ap}
 use mathlib.Core.Bool.{Bool, true, false, _&&_, true≢false}
 use mathlib.Core.List.{List, [], _∷_}
 use native.Mathlib.Omega.{arith}
 use borrow.Author.Tests.{eqb-true}
+use lib.Dec.{eqb}
 use lib.ListN.{length}
 use Rattle.terms.proofs.Laws.{and-left, and-right}
 use Rattle.timer.specs.Timer.{timingFits}
 use Rattle.timer.specs.declared.Timing.{Timing}
 use Rattle.timer.proofs.Laws.{sampled-fits, grown-least, grown-most}
-use Rattle.sender_state.specs.Table.{_!_, isFlying, replaced}
+use Rattle.sender_state.specs.Table.{_!_, isFlying, placeOf, replaced}
 use Rattle.sender_state.specs.Rules.{timerFits}
 use Rattle.sender_state.specs.declared.Sender.{Sender}
 use Rattle.sender_state.proofs.Facts.{Ruled, rules-of}
-use Rattle.sender_acks.specs.Acks.{ackedAt, timedBy, grownBy, freedBy}
+use Rattle.sender_acks.specs.Acks.{ackedAt, sampleOf, measuredBy, timedBy, grownBy, freedBy}
 use Rattle.sender_state.proofs.Replaced.{replaced-length, replaced-at}
 use Rattle.sender_meaning.specs.Meaning.{Standing, unmade, waits, flies, gone, standing, doesFly, Sound}
 use Rattle.sender_meaning.specs.Steps.{isNamed, ackedAs}
 use Rattle.sender_meaning.proofs.Counts.{by-bool, count-freed}
 use Rattle.sender_meaning.proofs.Stands.{flies-at, at-same, unmade-from, facts, one-place, where-is, nowhere-gone, stands-at, flies-mark}
 
--- samples below 2^32 leave a timing that fits, and a window from 1 to 128 stays one
-pub timed-fits : (sample : ℕ → ℕ) → ((n : ℕ) → sample n < 2 ^ 32) → (timing : Timing) (l : List ℕ) → timingFits timing ≡ true → timingFits (timedBy sample timing l) ≡ true
-timed-fits sample f timing [] t = t
-timed-fits sample f timing (n ∷ l) t = timed-fits sample f _ l (sampled-fits timing (sample n) t (f n))
+-- what a number makes of a timing that fits is one, and a window from 1 to 128 stays one
+pub measured-fits : (numbers sent resent : List ℕ) (clock : ℕ) (timing : Timing) (n : ℕ) → timingFits timing ≡ true → timingFits (measuredBy numbers sent resent clock timing n) ≡ true
+measured-fits numbers sent resent clock timing n t =
+    by-bool (eqb (resent ! placeOf numbers n) 1)
+    (λ again. rw again t)
+    (λ once. rw once (sampled-fits timing (sampleOf numbers sent clock n) t (omega arith)))
+
+pub timed-fits : (measured : Timing → ℕ → Timing) → ((timing : Timing) (n : ℕ) → timingFits timing ≡ true → timingFits (measured timing n) ≡ true)
+    → (timing : Timing) (l : List ℕ) → timingFits timing ≡ true → timingFits (timedBy measured timing l) ≡ true
+timed-fits measured f timing [] t = t
+timed-fits measured f timing (n ∷ l) t = timed-fits measured f _ l (f timing n t)
 
 pub grown-fits : (window : ℕ) (l : List ℕ) → 1 ≤ window → window ≤ 128 → (1 ≤ grownBy window l) × (grownBy window l ≤ 128)
 grown-fits window [] a b = (a, b)
@@ -59,6 +67,9 @@ module _ (s : Sender) (store : List ℕ) (sound : Sound s store) (pass : ℕ →
     time-stays : replaced 0 pass 0 (s .sent) ! i ≡ s .sent ! i
     time-stays = freed-there pass (s .sent) i (omega (arith, sound .sent-long)) spared
 
+    resent-stays : replaced 0 pass 0 (s .resent) ! i ≡ s .resent ! i
+    resent-stays = freed-there pass (s .resent) i (omega (arith, sound .resent-long)) spared
+
   -- a free place was free, or is one of those
   emptied : (l : List ℕ) → length l ≡ 192 → (i : ℕ) → i < 192 → replaced 0 pass 0 (s .marks) ! i ≡ 0 → (s .marks ! i ≡ 0 → l ! i ≡ 0) → replaced 0 pass 0 l ! i ≡ 0
   emptied l long i h z f =
@@ -88,9 +99,17 @@ module _ (s : Sender) (store : List ℕ) (sound : Sound s store) (pass : ℕ →
         no-number = λ i h z. emptied (s .numbers) (sound .numbers-long) i (omega arith) z (r .no-number i (omega arith));
         no-length = λ i h z. emptied (s .lengths) (sound .lengths-long) i (omega arith) z (r .no-length i (omega arith));
         no-time = λ i h z. emptied (s .sent) (sound .sent-long) i (omega arith) z (r .no-time i (omega arith));
+        no-resent = λ i h z. emptied (s .resent) (sound .resent-long) i (omega arith) z (r .no-resent i (omega arith));
         not-sent = λ i h w.
             let o : replaced 0 pass 0 (s .marks) ! i ≡ 0 → ⊥ = λ z. omega arith in
             time-stays i (omega arith) o ∙ r .not-sent i (omega arith) (sym (mark-stays i (omega arith) o) ∙ w);
+        unresent = λ i h w.
+            let o : replaced 0 pass 0 (s .marks) ! i ≡ 0 → ⊥ = λ z. omega arith in
+            resent-stays i (omega arith) o ∙ r .unresent i (omega arith) (sym (mark-stays i (omega arith) o) ∙ w);
+        once-or-more = λ i h.
+            by-bool (pass i)
+            (λ t. rw (freed-here pass (s .resent) i (omega (arith, sound .resent-long)) t) (omega arith))
+            (λ e. rw (freed-there pass (s .resent) i (omega (arith, sound .resent-long)) e) (r .once-or-more i (omega arith)));
         few = omega (arith, count-freed 2 (omega arith) pass 0 (s .marks), r .few);
         past = λ i h.
             by-bool (pass i)
@@ -115,6 +134,7 @@ module _ (s : Sender) (store : List ℕ) (sound : Sound s store) (pass : ℕ →
     numbers-long = replaced-length 0 pass 0 (s .numbers) ∙ sound .numbers-long;
     lengths-long = replaced-length 0 pass 0 (s .lengths) ∙ sound .lengths-long;
     sent-long = replaced-length 0 pass 0 (s .sent) ∙ sound .sent-long;
+    resent-long = replaced-length 0 pass 0 (s .resent) ∙ sound .resent-long;
     marks-long = replaced-length 0 pass 0 (s .marks) ∙ sound .marks-long;
     keeps = rules-of (freedBy s timing window clock pass) (freed-keeps later most due fits least top);
     fits = sound .fits;

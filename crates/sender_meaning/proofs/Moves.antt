@@ -100,7 +100,10 @@ module _ (s : Sender) (store : List ℕ) (sound : Sound s store) (place : ℕ) (
             (λ (e : i ≡ place). absurd (omega (arith, waits-there, rw e at (was-free i z))))
             (λ (o : i ≡ place → ⊥). sent-there i o ∙ r .no-time i (omega arith) (was-free i z))
             (ℕ-discrete i place);
+        no-resent = λ i h z. r .no-resent i (omega arith) (was-free i z);
         not-sent = λ i h w. let v = still-waits i w in sent-there i (v .0) ∙ r .not-sent i (omega arith) (v .1);
+        unresent = λ i h w. r .unresent i (omega arith) (still-waits i w .1);
+        once-or-more = λ i h. r .once-or-more i (omega arith);
         few = omega (arith, count-set 2 (s .marks) place (omega arith) (λ e. omega arith), r .window-most);
         past = λ i h.
             case
@@ -126,6 +129,7 @@ module _ (s : Sender) (store : List ℕ) (sound : Sound s store) (place : ℕ) (
     numbers-long = sound .numbers-long;
     lengths-long = sound .lengths-long;
     sent-long = simp length-set (sound .sent-long);
+    resent-long = sound .resent-long;
     marks-long = simp length-set (sound .marks-long);
     keeps = rules-of (moved s place clock timer) (moved-keeps room most timer due);
     fits = sound .fits;

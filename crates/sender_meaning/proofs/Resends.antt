@@ -73,7 +73,8 @@ module _ (s : Sender) (clock : ℕ) (path : Bool) where
       left-timed timer due none =
           let r = facts s store sound in
           record {
-            stays-sound = retimed-sound s store sound (s .window) (s .timing) timer clock (s .sent) (sound .sent-long) (λ i h o. refl)
+            stays-sound = retimed-sound s store sound (s .window) (s .timing) timer clock (s .sent) (s .resent) (sound .sent-long) (sound .resent-long) (λ i h o. refl)
+                (λ i h. r .once-or-more i (omega (arith, sound .marks-long))) (λ i h o. refl)
                 (λ i h. omega (arith, r .past i (omega (arith, sound .marks-long)))) most due (r .timing) (r .window-some) (r .window-most);
             means = λ n. none-again (goesAgain s clock path) none clock n (standing s store n);
             next-same = refl;
@@ -90,13 +91,16 @@ module _ (s : Sender) (clock : ℕ) (path : Bool) where
           let again : ℕ → Bool = λ i. isIn (expiredOf s clock) (s .numbers ! i) in
           let at : (i : ℕ) → i < 192 → replaced clock again 0 (s .sent) ! i ≡ (clock when again i else (s .sent ! i)) =
           λ i h. replaced-at clock again (s .sent) i (omega (arith, sound .sent-long)) in
+          let mark : (i : ℕ) → i < 192 → replaced 1 again 0 (s .resent) ! i ≡ (1 when again i else (s .resent ! i)) =
+          λ i h. replaced-at 1 again (s .resent) i (omega (arith, sound .resent-long)) in
+          let spared : (i : ℕ) → i < 192 → (s .marks ! i ≡ 2 → ⊥) → again i ≡ false =
+          λ i h o. by-bool (again i) (λ t. absurd (o (flies-there s store sound i h (expired-flies s store clock (s .numbers ! i) t)))) (λ f. f) in
           record {
-            stays-sound = retimed-sound s store sound (fallenOf (s .window)) G.Unsampled (T.At (clock + 9000)) clock (replaced clock again 0 (s .sent))
-                (replaced-length clock again 0 (s .sent) ∙ sound .sent-long)
-                (λ i h o.
-                at i h ∙ by-bool (again i)
-                (λ t. absurd (o (flies-there s store sound i h (expired-flies s store clock (s .numbers ! i) t))))
-                (λ f. rw f))
+            stays-sound = retimed-sound s store sound (fallenOf (s .window)) G.Unsampled (T.At (clock + 9000)) clock (replaced clock again 0 (s .sent)) (replaced 1 again 0 (s .resent))
+                (replaced-length clock again 0 (s .sent) ∙ sound .sent-long) (replaced-length 1 again 0 (s .resent) ∙ sound .resent-long)
+                (λ i h o. mark i h ∙ rw (spared i h o))
+                (λ i h. rw (mark i h) (by-bool (again i) (λ t. rw t (omega arith)) (λ f. rw f (r .once-or-more i (omega (arith, sound .marks-long))))))
+                (λ i h o. at i h ∙ rw (spared i h o))
                 (λ i h. rw (at i h) (by-bool (again i) (λ t. rw t (omega arith)) (λ f. rw f (omega (arith, r .past i (omega (arith, sound .marks-long)))))))
                 most (le-leb (clock + 9000) (clock + 60000) (omega arith)) refl (fallen-least (s .window) (r .window-some)) (fallen-most (s .window) (r .window-most));
             means = λ n. rw there (resent-means s store sound (isIn (expiredOf s clock)) (fallenOf (s .window)) G.Unsampled (T.At (clock + 9000)) clock n);

@@ -38,7 +38,10 @@ module _ (chunk count first : ℕ) (some : 1 ≤ first) where
     no-number = λ i h z. empty i h;
     no-length = λ i h z. empty i h;
     no-time = λ i h z. empty i h;
+    no-resent = λ i h z. empty i h;
     not-sent = λ i h w. empty i h;
+    unresent = λ i h w. empty i h;
+    once-or-more = λ i h. rw (empty i h) (omega arith);
     few = omega arith;
     past = λ i h. rw (empty i h) (omega arith);
     due = refl;
@@ -70,6 +73,7 @@ module _ (first : SeqNo) (chunk count : ℕ) (store : List ℕ) where
           numbers-long = refl;
           lengths-long = refl;
           sent-long = refl;
+          resent-long = refl;
           marks-long = refl;
           keeps = rules-of (nothingStored chunk count (first .0)) (fresh-keeps chunk count (first .0) (omega (arith, some)));
           fits = not-false (sizesFit chunk count (length store)) (p10 .0);

@@ -125,10 +125,19 @@ module _ (s : Sender) (store : List ℕ) (sound : Sound s store) (packet : List 
             at-or-off i
             (λ p. absurd (omega (arith, at .marks-here i p)))
             (λ p. r .no-time i (before i h) (sym (at .marks-there i p) ∙ z));
+        no-resent = λ i h z.
+            at-or-off i
+            (λ p. absurd (omega (arith, at .marks-here i p)))
+            (λ p. r .no-resent i (before i h) (sym (at .marks-there i p) ∙ z));
         not-sent = λ i h e.
             at-or-off i
             (λ p. r .no-time i (before i h) (ap (λ (k : ℕ). s .marks ! k) p ∙ at .free))
             (λ p. r .not-sent i (before i h) (sym (at .marks-there i p) ∙ e));
+        unresent = λ i h e.
+            at-or-off i
+            (λ p. r .no-resent i (before i h) (ap (λ (k : ℕ). s .marks ! k) p ∙ at .free))
+            (λ p. r .unresent i (before i h) (sym (at .marks-there i p) ∙ e));
+        once-or-more = λ i h. r .once-or-more i (before i h);
         few = rw (count-kept 2 (s .marks) (lowestFree s) 1 (λ e. omega (arith, at .free)) (λ e. omega arith)) (r .few);
         past = λ i h. r .past i (before i h);
         due = r .due;

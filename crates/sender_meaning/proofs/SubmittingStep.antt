@@ -53,6 +53,7 @@ module _ (s : Sender) (store : List ℕ) (sound : Sound s store) (packet : List 
     numbers-long = simp length-set (sound .numbers-long);
     lengths-long = simp length-set (sound .lengths-long);
     sent-long = sound .sent-long;
+    resent-long = sound .resent-long;
     marks-long = simp length-set (sound .marks-long);
     keeps = rules-of (grown s packet) (joined-ruled s store sound packet room);
     fits = rw laid-long (sound .fits);

@@ -62,6 +62,7 @@ pub record Sound (s : Sender) (store : List ℕ) : Type 0 where
   pub numbers-long : length (s .numbers) ≡ 192
   pub lengths-long : length (s .lengths) ≡ 192
   pub sent-long : length (s .sent) ≡ 192
+  pub resent-long : length (s .resent) ≡ 192
   pub marks-long : length (s .marks) ≡ 192
   pub keeps : rules s ≡ true
   pub fits : sizesFit (s .chunk) (s .count) (length store) ≡ true

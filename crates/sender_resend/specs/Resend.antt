@@ -10,7 +10,8 @@ use Rattle.terms.specs.Answers.{Said, refusal, values, _unlessRefused_else_}
 use Rattle.timer.specs.Timer.{rtoOf}
 use Rattle.timer.specs.Window.{fallenOf}
 use Rattle.timer.specs.declared.Timing.the-variants as G
-use Rattle.sender_state.specs.Table.{_!_, differs, placeOf, replaced}
+use Rattle.sender_state.specs.Table.{_!_, differs, placeOf}
+use Rattle.sender_state.specs.Places.{placesOf, stamping, stateOf}
 use Rattle.sender_state.specs.Rules.{rules, countsFit, clockWrong}
 use Rattle.sender_state.specs.Answers.{Outcome, saidTally}
 use Rattle.sender_state.specs.declared.Sender.{Sender}
@@ -61,35 +62,11 @@ isIn l n = not (all (differs n) l)
 
 -- a state with another timer and clock
 abbrev pub timedAt : Sender → Timer → ℕ → Sender
-timedAt s timer clock = record {
-  chunk = s .chunk;
-  count = s .count;
-  next = s .next;
-  window = s .window;
-  timing = s .timing;
-  timer = timer;
-  clock = clock;
-  numbers = s .numbers;
-  lengths = s .lengths;
-  sent = s .sent;
-  marks = s .marks;
-}
+timedAt s timer clock = stateOf (s .chunk) (s .count) (s .next .0) (s .window) (s .timing) timer clock (placesOf s)
 
--- RTT and RTO become unsampled, the places that pass get the new clock, the timer is clock + 9,000, a window above 1 falls by 1
+-- RTT and RTO become unsampled, the packets of the places that pass get the new clock and are marked as sent more than once, the timer is clock + 9,000, a window above 1 falls by 1
 abbrev pub resentBy : Sender → ℕ → (ℕ → Bool) → Sender
-resentBy s clock again = record {
-  chunk = s .chunk;
-  count = s .count;
-  next = s .next;
-  window = fallenOf (s .window);
-  timing = G.Unsampled;
-  timer = T.At (clock + 9000);
-  clock = clock;
-  numbers = s .numbers;
-  lengths = s .lengths;
-  sent = replaced clock again 0 (s .sent);
-  marks = s .marks;
-}
+resentBy s clock again = stateOf (s .chunk) (s .count) (s .next .0) (fallenOf (s .window)) G.Unsampled (T.At (clock + 9000)) clock (stamping (placesOf s) again clock)
 
 -- the state after it
 abbrev pub resendLeaves : Sender → ℕ → Bool → Sender

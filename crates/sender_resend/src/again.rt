@@ -103,6 +103,7 @@ fn still(s: Sender, timer: Timer, clock: u64) -> Sender
     let numbers = s.numbers;
     let lengths = s.lengths;
     let sent = s.sent;
+    let resent = s.resent;
     let marks = s.marks;
     Sender {
         chunk: s.chunk,
@@ -115,6 +116,7 @@ fn still(s: Sender, timer: Timer, clock: u64) -> Sender
         numbers: numbers,
         lengths: lengths,
         sent: sent,
+        resent: resent,
         marks: marks,
     }
 }
@@ -144,6 +146,31 @@ fn stamp_all<'a>(sent: &mut [u64; 192], numbers: &'a [u32], marks: &'a [u32], en
     }
 }
 
+// The mark of one place after a resend: 1 where its packet is in flight with a number below end.
+fn repeat(resent: u32, number: u32, mark: u32, end: u32) -> u32
+    ensures { λ r. ⌜ r ≡ (1 when (isFlying mark && ltb number end) else resent) ⌝ }
+{
+    if mark != 2 {
+        return resent;
+    }
+    if number < end {
+        return 1;
+    }
+    resent
+}
+
+// Marks the places in flight with numbers below end as sent more than once.
+fn repeat_all<'a>(resent: &mut [u32; 192], numbers: &'a [u32], marks: &'a [u32], end: u32)
+    requires { ⌜ (length (now resent) ≡ 192) × (length (now numbers) ≡ 192) × (length (now marks) ≡ 192) ⌝ }
+    ensures { λ _. ⌜ now (resent .exit) ≡ replaced 1 (flyingBelow (now (numbers .entry)) (now (marks .entry)) end) 0 (now (resent .entry)) ⌝ }
+{
+    let mut i = 0;
+    while i < 192 {
+        resent[i] = repeat(resent[i], numbers[i], marks[i], end);
+        i += 1;
+    }
+}
+
 // The state after resending what is in flight below end. RTT and RTO become unsampled, so the Rust's `exponential_backoff`, which multiplies a
 // sampled RTO, is left out: `resend` resets the RTO just before it.
 fn stamped(s: Sender, end: u32, clock: u64) -> Sender
@@ -152,6 +179,8 @@ fn stamped(s: Sender, end: u32, clock: u64) -> Sender
 {
     let mut sent = s.sent;
     stamp_all(&mut sent, &s.numbers, &s.marks, end, clock);
+    let mut resent = s.resent;
+    repeat_all(&mut resent, &s.numbers, &s.marks, end);
     let fallen = timer::window_fallen(s.window);
     let due = clock + 9000;
     let next = s.next;
@@ -169,6 +198,7 @@ fn stamped(s: Sender, end: u32, clock: u64) -> Sender
         numbers: numbers,
         lengths: lengths,
         sent: sent,
+        resent: resent,
         marks: marks,
     }
 }

@@ -3,13 +3,14 @@ use Prim.Native.Nat.{ℕ, _+_}
 use mathlib.Core.Bool.{not}
 use mathlib.Core.List.{List, [], _∷_}
 use lib.Dec.{leb, ltb}
-use lib.ListN.{length, set}
+use lib.ListN.{length}
 use Rattle.terms.specs.Ladder.{_when_else_}
 use Rattle.terms.specs.Lists.{_atFrontOf_}
 use Rattle.terms.specs.Refusals.{numberOf}
 use Rattle.terms.specs.Answers.{Said, refusal, values, _unlessRefused_else_}
 use Rattle.timer.specs.Timer.{rtoOf}
 use Rattle.sender_state.specs.Table.{_!_, countOf, placeOf}
+use Rattle.sender_state.specs.Places.{placesOf, departing, stateOf}
 use Rattle.sender_state.specs.Rules.{rules, sizesFit, clockWrong}
 use Rattle.sender_state.specs.Answers.{Outcome}
 use Rattle.sender_state.specs.declared.Sender.{Sender}
@@ -49,19 +50,7 @@ armed (T.At at₀) due = T.At at₀
 
 -- a state with the packet of a place in flight since the clock
 abbrev pub moved : Sender → ℕ → ℕ → Timer → Sender
-moved s place clock timer = record {
-  chunk = s .chunk;
-  count = s .count;
-  next = s .next;
-  window = s .window;
-  timing = s .timing;
-  timer = timer;
-  clock = clock;
-  numbers = s .numbers;
-  lengths = s .lengths;
-  sent = set (s .sent) place clock;
-  marks = set (s .marks) place 2;
-}
+moved s place clock timer = stateOf (s .chunk) (s .count) (s .next .0) (s .window) (s .timing) timer clock (departing (placesOf s) place clock)
 
 -- the lowest waiting number moves in flight, the clock is noted, and the timer armed at clock plus RTO if unarmed
 abbrev pub departed : Sender → ℕ → Sender

@@ -67,6 +67,7 @@ pub(super) fn departs(s: Sender, at: usize, clock: u64, timer: Timer) -> Sender
     marks[at] = 2;
     let numbers = s.numbers;
     let lengths = s.lengths;
+    let resent = s.resent;
     let timing = s.timing;
     let next = s.next;
     Sender {
@@ -80,6 +81,7 @@ pub(super) fn departs(s: Sender, at: usize, clock: u64, timer: Timer) -> Sender
         numbers: numbers,
         lengths: lengths,
         sent: sent,
+        resent: resent,
         marks: marks,
     }
 }

@@ -14,7 +14,9 @@ use Rattle.terms.proofs.Laws.{case, and-left, and-right, and-both, each-at, eac
 use Rattle.timer.specs.Timer.{timingFits}
 use Rattle.sender_state.specs.Table.{_!_, isFree, isWaiting, isFlying, countOf}
 use Rattle.sender_state.specs.Numbers.{offsetOf}
-use Rattle.sender_state.specs.Rules.{apart, belowWaiting, below, someNumber, freeFrom, emptyPlace, unsent, sentInTime, lengthWithin, knownMark, timerFits, rules, countsFit, sizesFit, clockWrong}
+use Rattle.sender_state.specs.Rules.{eachPlace, apart, belowWaiting, below, someNumber, freeFrom, isEmptied, emptyWhereFree, unsent, sentInTime, lengthWithin, neverResent, knownValues, timerFits, rules, countsFit, sizesFit, clockWrong}
+use Rattle.sender_state.specs.Places.{placeAt}
+use Rattle.sender_state.specs.declared.Place.{Place}
 use Rattle.sender_state.specs.declared.Sender.{Sender}
 
 -- a test at each place
@@ -46,6 +48,7 @@ pub record Ruled (s : Sender) : Type 0 where
   pub no-number : (i : ℕ) → i < length (s .marks) → s .marks ! i ≡ 0 → s .numbers ! i ≡ 0
   pub no-length : (i : ℕ) → i < length (s .marks) → s .marks ! i ≡ 0 → s .lengths ! i ≡ 0
   pub no-time : (i : ℕ) → i < length (s .marks) → s .marks ! i ≡ 0 → s .sent ! i ≡ 0
+  pub no-resent : (i : ℕ) → i < length (s .marks) → s .marks ! i ≡ 0 → s .resent ! i ≡ 0
   pub not-sent : (i : ℕ) → i < length (s .marks) → s .marks ! i ≡ 1 → s .sent ! i ≡ 0
   pub few : countOf 2 (s .marks) ≤ 128
   pub past : (i : ℕ) → i < length (s .marks) → s .sent ! i ≤ s .clock
@@ -56,60 +59,76 @@ pub record Ruled (s : Sender) : Type 0 where
   pub long : (i : ℕ) → i < length (s .marks) → (s .marks ! i ≡ 0 → ⊥) → 22 ≤ s .lengths ! i
   pub short : (i : ℕ) → i < length (s .marks) → (s .marks ! i ≡ 0 → ⊥) → s .lengths ! i ≤ s .chunk + 1044
   pub clock-most : s .clock ≤ 1000000000000000
+  pub unresent : (i : ℕ) → i < length (s .marks) → s .marks ! i ≡ 1 → s .resent ! i ≡ 0
   pub known : (i : ℕ) → i < length (s .marks) → s .marks ! i ≤ 2
+  pub once-or-more : (i : ℕ) → i < length (s .marks) → s .resent ! i ≤ 1
 
+-- the same of the places of a state
 module _ (s : Sender) where
+  at-each : (p : ℕ → Place → Bool) → eachPlace s p ≡ true → (i : ℕ) → i < length (s .marks) → p i (placeAt s i) ≡ true
+  at-each p = at-place (λ i mark. p i (placeAt s i)) (s .marks)
+
+  of-each : (p : ℕ → Place → Bool) → ((i : ℕ) → i < length (s .marks) → p i (placeAt s i) ≡ true) → eachPlace s p ≡ true
+  of-each p = of-places (λ i mark. p i (placeAt s i)) (s .marks)
+
   pub ruled : rules s ≡ true → Ruled s
   unfolding rules
   ruled h0 =
       let m = s .marks in
       let numbers = s .numbers in
-      let h1 = and-right (each (λ i mark. each (apart numbers i mark) 0 m) 0 m) _ h0 in
-      let h2 = and-right (each (below numbers (s .next .0)) 0 m) _ h1 in
-      let h3 = and-right (each (λ i mark. each (belowWaiting numbers i mark) 0 m) 0 m) _ h2 in
-      let h4 = and-right (each (someNumber numbers) 0 m) _ h3 in
+      let at = placeAt s in
+      let h1 = and-right (eachPlace s (λ i p. eachPlace s (apart i p))) _ h0 in
+      let h2 = and-right (eachPlace s (λ i. below (s .next .0))) _ h1 in
+      let h3 = and-right (eachPlace s (λ i p. eachPlace s (λ j. belowWaiting p))) _ h2 in
+      let h4 = and-right (eachPlace s (λ i. someNumber)) _ h3 in
       let h5 = and-right (leb 1 (s .next .0)) _ h4 in
-      let h6 = and-right (each (freeFrom (s .count)) 0 m) _ h5 in
-      let h7 = and-right (each (emptyPlace numbers (s .lengths) (s .sent)) 0 m) _ h6 in
-      let h8 = and-right (each (unsent (s .sent)) 0 m) _ h7 in
+      let h6 = and-right (eachPlace s (freeFrom (s .count))) _ h5 in
+      let h7 = and-right (eachPlace s (λ i. emptyWhereFree)) _ h6 in
+      let h8 = and-right (eachPlace s (λ i. unsent)) _ h7 in
       let h9 = and-right (leb (countOf 2 m) 128) _ h8 in
-      let h10 = and-right (each (sentInTime (s .sent) (s .clock)) 0 m) _ h9 in
+      let h10 = and-right (eachPlace s (λ i. sentInTime (s .clock))) _ h9 in
       let h11 = and-right (timerFits (s .timer) (s .clock)) _ h10 in
       let h12 = and-right (leb 1 (s .window)) _ h11 in
       let h13 = and-right (leb (s .window) 128) _ h12 in
       let h14 = and-right (timingFits (s .timing)) _ h13 in
-      let h15 = and-right (each (lengthWithin (s .lengths) (s .chunk)) 0 m) _ h14 in
-      let r0 = and-left (each (λ i mark. each (apart numbers i mark) 0 m) 0 m) _ h0 in
-      let r1 = and-left (each (below numbers (s .next .0)) 0 m) _ h1 in
-      let r2 = and-left (each (λ i mark. each (belowWaiting numbers i mark) 0 m) 0 m) _ h2 in
-      let r3 = and-left (each (someNumber numbers) 0 m) _ h3 in
-      let r5 = and-left (each (freeFrom (s .count)) 0 m) _ h5 in
-      let r6 = and-left (each (emptyPlace numbers (s .lengths) (s .sent)) 0 m) _ h6 in
-      let r7 = and-left (each (unsent (s .sent)) 0 m) _ h7 in
-      let r9 = and-left (each (sentInTime (s .sent) (s .clock)) 0 m) _ h9 in
-      let r14 = and-left (each (lengthWithin (s .lengths) (s .chunk)) 0 m) _ h14 in
-      let vacant : (i : ℕ) → i < length m → m ! i ≡ 0 → (eqb (numbers ! i) 0 && (eqb (s .lengths ! i) 0 && eqb (s .sent ! i) 0)) ≡ true =
-      λ i h z. unless-at (eqb (numbers ! i) 0 && (eqb (s .lengths ! i) 0 && eqb (s .sent ! i) 0)) (not (isFree (m ! i))) (at-place (emptyPlace numbers (s .lengths) (s .sent)) m r6 i h) (rw (eq-eqb _ _ z)) in
+      let h15 = and-right (eachPlace s (λ i. lengthWithin (s .chunk))) _ h14 in
+      let h16 = and-right (leb (s .clock) 1000000000000000) _ h15 in
+      let r0 = and-left (eachPlace s (λ i p. eachPlace s (apart i p))) _ h0 in
+      let r1 = and-left (eachPlace s (λ i. below (s .next .0))) _ h1 in
+      let r2 = and-left (eachPlace s (λ i p. eachPlace s (λ j. belowWaiting p))) _ h2 in
+      let r3 = and-left (eachPlace s (λ i. someNumber)) _ h3 in
+      let r5 = and-left (eachPlace s (freeFrom (s .count))) _ h5 in
+      let r6 = and-left (eachPlace s (λ i. emptyWhereFree)) _ h6 in
+      let r7 = and-left (eachPlace s (λ i. unsent)) _ h7 in
+      let r9 = and-left (eachPlace s (λ i. sentInTime (s .clock))) _ h9 in
+      let r14 = and-left (eachPlace s (λ i. lengthWithin (s .chunk))) _ h14 in
+      let r16 = and-left (eachPlace s (λ i. neverResent)) _ h16 in
+      let r17 = and-right (eachPlace s (λ i. neverResent)) (eachPlace s (λ i. knownValues)) h16 in
+      let vacant : (i : ℕ) → i < length m → m ! i ≡ 0 → isEmptied (at i) ≡ true =
+      λ i h z. unless-at (isEmptied (at i)) (not (isFree (m ! i))) (at-each (λ i. emptyWhereFree) r6 i h) (rw (eq-eqb _ _ z)) in
+      let timeless : (i : ℕ) → i < length m → m ! i ≡ 0 → (eqb (s .sent ! i) 0 && eqb (s .resent ! i) 0) ≡ true =
+      λ i h z. and-right (eqb (s .lengths ! i) 0) _ (and-right (eqb (numbers ! i) 0) _ (vacant i h z)) in
       let within : (i : ℕ) → i < length m → (m ! i ≡ 0 → ⊥) → (leb 22 (s .lengths ! i) && leb (s .lengths ! i) (s .chunk + 1044)) ≡ true =
-      λ i h n. unless-at (leb 22 (s .lengths ! i) && leb (s .lengths ! i) (s .chunk + 1044)) (isFree (m ! i)) (at-place (lengthWithin (s .lengths) (s .chunk)) m r14 i h) (ne-eqb _ _ n) in
+      λ i h n. unless-at (leb 22 (s .lengths ! i) && leb (s .lengths ! i) (s .chunk + 1044)) (isFree (m ! i)) (at-each (λ i. lengthWithin (s .chunk)) r14 i h) (ne-eqb _ _ n) in
       record {
         distinct = λ i j h k o a b e.
-            let t = at-place (apart numbers i (m ! i)) m (at-place (λ i mark. each (apart numbers i mark) 0 m) m r0 i h) j k in
+            let t = at-each (apart i (at i)) (at-each (λ i p. eachPlace s (apart i p)) r0 i h) j k in
             let u = unless-at (not (eqb (numbers ! i) (numbers ! j))) (eqb i j || (isFree (m ! i) || isFree (m ! j))) t (or-both-false _ _ (ne-eqb _ _ o) (or-both-false _ _ (ne-eqb _ _ a) (ne-eqb _ _ b))) in
             eqb-false _ _ (not-true _ u) e;
-        low = λ i h n. ltb-true _ _ (unless-at (ltb (numbers ! i) (s .next .0)) (isFree (m ! i)) (at-place (below numbers (s .next .0)) m r1 i h) (ne-eqb _ _ n));
+        low = λ i h n. ltb-true _ _ (unless-at (ltb (numbers ! i) (s .next .0)) (isFree (m ! i)) (at-each (λ i. below (s .next .0)) r1 i h) (ne-eqb _ _ n));
         order = λ i j h k a b.
-            let t = at-place (belowWaiting numbers i (m ! i)) m (at-place (λ i mark. each (belowWaiting numbers i mark) 0 m) m r2 i h) j k in
+            let t = at-each (λ j. belowWaiting (at i)) (at-each (λ i p. eachPlace s (λ j. belowWaiting p)) r2 i h) j k in
             ltb-true _ _ (unless-at (ltb (numbers ! i) (numbers ! j)) (not (isFlying (m ! i) && isWaiting (m ! j))) t (rw (eq-eqb _ _ a, eq-eqb _ _ b)));
-        some = λ i h n. leb-true _ _ (unless-at (leb 1 (numbers ! i)) (isFree (m ! i)) (at-place (someNumber numbers) m r3 i h) (ne-eqb _ _ n));
+        some = λ i h n. leb-true _ _ (unless-at (leb 1 (numbers ! i)) (isFree (m ! i)) (at-each (λ i. someNumber) r3 i h) (ne-eqb _ _ n));
         next-some = leb-true _ _ (and-left (leb 1 (s .next .0)) _ h4);
-        shut = λ i h a. eqb-true _ _ (unless-at (isFree (m ! i)) (ltb i (s .count)) (at-place (freeFrom (s .count)) m r5 i h) (le-ltb _ _ a));
+        shut = λ i h a. eqb-true _ _ (unless-at (isFree (m ! i)) (ltb i (s .count)) (at-each (freeFrom (s .count)) r5 i h) (le-ltb _ _ a));
         no-number = λ i h z. eqb-true _ _ (and-left (eqb (numbers ! i) 0) _ (vacant i h z));
         no-length = λ i h z. eqb-true _ _ (and-left (eqb (s .lengths ! i) 0) _ (and-right (eqb (numbers ! i) 0) _ (vacant i h z)));
-        no-time = λ i h z. eqb-true _ _ (and-right (eqb (s .lengths ! i) 0) (eqb (s .sent ! i) 0) (and-right (eqb (numbers ! i) 0) _ (vacant i h z)));
-        not-sent = λ i h w. eqb-true _ _ (unless-at (eqb (s .sent ! i) 0) (not (isWaiting (m ! i))) (at-place (unsent (s .sent)) m r7 i h) (rw (eq-eqb _ _ w)));
+        no-time = λ i h z. eqb-true _ _ (and-left (eqb (s .sent ! i) 0) _ (timeless i h z));
+        no-resent = λ i h z. eqb-true _ _ (and-right (eqb (s .sent ! i) 0) (eqb (s .resent ! i) 0) (timeless i h z));
+        not-sent = λ i h w. eqb-true _ _ (unless-at (eqb (s .sent ! i) 0) (not (isWaiting (m ! i))) (at-each (λ i. unsent) r7 i h) (rw (eq-eqb _ _ w)));
         few = leb-true _ _ (and-left (leb (countOf 2 m) 128) _ h8);
-        past = λ i h. leb-true _ _ (at-place (sentInTime (s .sent) (s .clock)) m r9 i h);
+        past = λ i h. leb-true _ _ (at-each (λ i. sentInTime (s .clock)) r9 i h);
         due = and-left (timerFits (s .timer) (s .clock)) _ h10;
         window-some = leb-true _ _ (and-left (leb 1 (s .window)) _ h11);
         window-most = leb-true _ _ (and-left (leb (s .window) 128) _ h12);
@@ -117,7 +136,9 @@ module _ (s : Sender) where
         long = λ i h n. leb-true _ _ (and-left (leb 22 (s .lengths ! i)) _ (within i h n));
         short = λ i h n. leb-true _ _ (and-right (leb 22 (s .lengths ! i)) (leb (s .lengths ! i) (s .chunk + 1044)) (within i h n));
         clock-most = leb-true _ _ (and-left (leb (s .clock) 1000000000000000) _ h15);
-        known = λ i h. leb-true _ _ (at-place knownMark m (and-right (leb (s .clock) 1000000000000000) (each knownMark 0 m) h15) i h);
+        unresent = λ i h w. eqb-true _ _ (unless-at (eqb (s .resent ! i) 0) (not (isWaiting (m ! i))) (at-each (λ i. neverResent) r16 i h) (rw (eq-eqb _ _ w)));
+        known = λ i h. leb-true _ _ (and-left (leb (m ! i) 2) _ (at-each (λ i. knownValues) r17 i h));
+        once-or-more = λ i h. leb-true _ _ (and-right (leb (m ! i) 2) (leb (s .resent ! i) 1) (at-each (λ i. knownValues) r17 i h));
       }
 
   pub rules-of : Ruled s → rules s ≡ true
@@ -125,9 +146,10 @@ module _ (s : Sender) where
   rules-of r =
       let m = s .marks in
       let numbers = s .numbers in
-      and-both (each (λ i mark. each (apart numbers i mark) 0 m) 0 m) _
-      (of-places (λ i mark. each (apart numbers i mark) 0 m) m
-      (λ i h. of-places (apart numbers i (m ! i)) m
+      let at = placeAt s in
+      and-both (eachPlace s (λ i p. eachPlace s (apart i p))) _
+      (of-each (λ i p. eachPlace s (apart i p))
+      (λ i h. of-each (apart i (at i))
       (λ j k. or-of (eqb i j || (isFree (m ! i) || isFree (m ! j))) (not (eqb (numbers ! i) (numbers ! j)))
       (λ e.
       let o = eqb-false i j (or-false-left (eqb i j) _ e) in
@@ -135,39 +157,43 @@ module _ (s : Sender) where
       let a = eqb-false (m ! i) 0 (or-false-left (isFree (m ! i)) _ z) in
       let b = eqb-false (m ! j) 0 (or-false-right (isFree (m ! i)) (isFree (m ! j)) z) in
       rw (ne-eqb (numbers ! i) (numbers ! j) (r .distinct i j h k o a b))))))
-      (and-both (each (below numbers (s .next .0)) 0 m) _
-      (of-places (below numbers (s .next .0)) m (λ i h. or-of (isFree (m ! i)) _ (λ e. lt-ltb _ _ (r .low i h (eqb-false _ _ e)))))
-      (and-both (each (λ i mark. each (belowWaiting numbers i mark) 0 m) 0 m) _
-      (of-places (λ i mark. each (belowWaiting numbers i mark) 0 m) m
-      (λ i h. of-places (belowWaiting numbers i (m ! i)) m
+      (and-both (eachPlace s (λ i. below (s .next .0))) _
+      (of-each (λ i. below (s .next .0)) (λ i h. or-of (isFree (m ! i)) _ (λ e. lt-ltb _ _ (r .low i h (eqb-false _ _ e)))))
+      (and-both (eachPlace s (λ i p. eachPlace s (λ j. belowWaiting p))) _
+      (of-each (λ i p. eachPlace s (λ j. belowWaiting p))
+      (λ i h. of-each (λ j. belowWaiting (at i))
       (λ j k. or-of (not (isFlying (m ! i) && isWaiting (m ! j))) _
       (λ e.
       let t = not-false (isFlying (m ! i) && isWaiting (m ! j)) e in
       lt-ltb _ _ (r .order i j h k (eqb-true _ _ (and-left (isFlying (m ! i)) _ t)) (eqb-true _ _ (and-right (isFlying (m ! i)) (isWaiting (m ! j)) t)))))))
-      (and-both (each (someNumber numbers) 0 m) _
-      (of-places (someNumber numbers) m (λ i h. or-of (isFree (m ! i)) _ (λ e. le-leb _ _ (r .some i h (eqb-false _ _ e)))))
+      (and-both (eachPlace s (λ i. someNumber)) _
+      (of-each (λ i. someNumber) (λ i h. or-of (isFree (m ! i)) _ (λ e. le-leb _ _ (r .some i h (eqb-false _ _ e)))))
       (and-both (leb 1 (s .next .0)) _ (le-leb _ _ (r .next-some))
-      (and-both (each (freeFrom (s .count)) 0 m) _
-      (of-places (freeFrom (s .count)) m (λ i h. or-of (ltb i (s .count)) _ (λ e. eq-eqb _ _ (r .shut i h (ltb-false _ _ e)))))
-      (and-both (each (emptyPlace numbers (s .lengths) (s .sent)) 0 m) _
-      (of-places (emptyPlace numbers (s .lengths) (s .sent)) m
+      (and-both (eachPlace s (freeFrom (s .count))) _
+      (of-each (freeFrom (s .count)) (λ i h. or-of (ltb i (s .count)) _ (λ e. eq-eqb _ _ (r .shut i h (ltb-false _ _ e)))))
+      (and-both (eachPlace s (λ i. emptyWhereFree)) _
+      (of-each (λ i. emptyWhereFree)
       (λ i h. or-of (not (isFree (m ! i))) _
       (λ e.
       let z = eqb-true (m ! i) 0 (not-false (isFree (m ! i)) e) in
-      and-both (eqb (numbers ! i) 0) _ (eq-eqb _ _ (r .no-number i h z)) (and-both (eqb (s .lengths ! i) 0) (eqb (s .sent ! i) 0) (eq-eqb _ _ (r .no-length i h z)) (eq-eqb _ _ (r .no-time i h z))))))
-      (and-both (each (unsent (s .sent)) 0 m) _
-      (of-places (unsent (s .sent)) m (λ i h. or-of (not (isWaiting (m ! i))) _ (λ e. eq-eqb _ _ (r .not-sent i h (eqb-true (m ! i) 1 (not-false (isWaiting (m ! i)) e))))))
+      and-both (eqb (numbers ! i) 0) _ (eq-eqb _ _ (r .no-number i h z))
+      (and-both (eqb (s .lengths ! i) 0) _ (eq-eqb _ _ (r .no-length i h z))
+      (and-both (eqb (s .sent ! i) 0) (eqb (s .resent ! i) 0) (eq-eqb _ _ (r .no-time i h z)) (eq-eqb _ _ (r .no-resent i h z)))))))
+      (and-both (eachPlace s (λ i. unsent)) _
+      (of-each (λ i. unsent) (λ i h. or-of (not (isWaiting (m ! i))) _ (λ e. eq-eqb _ _ (r .not-sent i h (eqb-true (m ! i) 1 (not-false (isWaiting (m ! i)) e))))))
       (and-both (leb (countOf 2 m) 128) _ (le-leb _ _ (r .few))
-      (and-both (each (sentInTime (s .sent) (s .clock)) 0 m) _ (of-places (sentInTime (s .sent) (s .clock)) m (λ i h. le-leb _ _ (r .past i h)))
+      (and-both (eachPlace s (λ i. sentInTime (s .clock))) _ (of-each (λ i. sentInTime (s .clock)) (λ i h. le-leb _ _ (r .past i h)))
       (and-both (timerFits (s .timer) (s .clock)) _ (r .due)
       (and-both (leb 1 (s .window)) _ (le-leb _ _ (r .window-some))
       (and-both (leb (s .window) 128) _ (le-leb _ _ (r .window-most))
       (and-both (timingFits (s .timing)) _ (r .timing)
-      (and-both (each (lengthWithin (s .lengths) (s .chunk)) 0 m) _
-      (of-places (lengthWithin (s .lengths) (s .chunk)) m
+      (and-both (eachPlace s (λ i. lengthWithin (s .chunk))) _
+      (of-each (λ i. lengthWithin (s .chunk))
       (λ i h. or-of (isFree (m ! i)) _ (λ e. and-both _ _ (le-leb _ _ (r .long i h (eqb-false _ _ e))) (le-leb _ _ (r .short i h (eqb-false _ _ e))))))
-      (and-both (leb (s .clock) 1000000000000000) (each knownMark 0 m) (le-leb _ _ (r .clock-most))
-      (of-places knownMark m (λ i h. le-leb _ _ (r .known i h))))))))))))))))))
+      (and-both (leb (s .clock) 1000000000000000) _ (le-leb _ _ (r .clock-most))
+      (and-both (eachPlace s (λ i. neverResent)) (eachPlace s (λ i. knownValues))
+      (of-each (λ i. neverResent) (λ i h. or-of (not (isWaiting (m ! i))) _ (λ e. eq-eqb _ _ (r .unresent i h (eqb-true (m ! i) 1 (not-false (isWaiting (m ! i)) e))))))
+      (of-each (λ i. knownValues) (λ i h. and-both (leb (m ! i) 2) (leb (s .resent ! i) 1) (le-leb _ _ (r .known i h)) (le-leb _ _ (r .once-or-more i h))))))))))))))))))))
 
 pub record Counted (chunk count : ℕ) : Type 0 where
   pub chunk-some : 1 ≤ chunk

@@ -1,5 +1,7 @@
--- The definitions that the promises cite: the table of places, by number too, the rules of a state, what calls answer, and start.
+-- The definitions that the promises cite: lists by index (Table), the table of places and its changes (Places), the same by number (Numbers), the rules of a
+-- state, what calls answer, and start.
 pub mod Table
+pub mod Places
 pub mod Numbers
 pub mod Rules
 pub mod Answers

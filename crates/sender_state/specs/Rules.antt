@@ -1,90 +1,84 @@
 -- What a sender's state may be, and what sizes fit it: document 01, "Sender". Sums are not cut to 32 bits.
 use Prim.Native.Nat.{ℕ, _+_, _*_}
 use mathlib.Core.Bool.{Bool, true, _&&_, _||_, not}
-use mathlib.Core.List.{List}
 use lib.Dec.{leb, ltb, eqb}
 use Rattle.terms.specs.Ladder.{_and_}
 use Rattle.terms.specs.Lists.{each}
 use Rattle.timer.specs.Timer.{timingFits}
-use Rattle.timer.specs.declared.Timing.{Timing}
-use Rattle.sender_state.specs.Table.{_!_, _unless_, isFree, isWaiting, isFlying, countOf}
+use Rattle.sender_state.specs.Table.{_unless_, isFree, isWaiting, isFlying, countOf}
+use Rattle.sender_state.specs.Places.{placeAt}
+use Rattle.sender_state.specs.declared.Place.{Place}
 use Rattle.sender_state.specs.declared.Timer.{Timer}
 use Rattle.sender_state.specs.declared.Timer.the-variants as T
 use Rattle.sender_state.specs.declared.Sender.{Sender}
 
--- a state from its numbers and its four lists
-abbrev pub stateOf : ℕ → ℕ → ℕ → ℕ → Timing → Timer → ℕ → List ℕ → List ℕ → List ℕ → List ℕ → Sender
-stateOf chunk count next window timing timer clock numbers lengths sent marks = record {
-  chunk = chunk;
-  count = count;
-  next = record { 0 = next };
-  window = window;
-  timing = timing;
-  timer = timer;
-  clock = clock;
-  numbers = numbers;
-  lengths = lengths;
-  sent = sent;
-  marks = marks;
-}
+-- a test at each place, by its index
+abbrev pub eachPlace : Sender → (ℕ → Place → Bool) → Bool
+eachPlace s p = each (λ i mark. p i (placeAt s i)) 0 (s .marks)
 
--- the rules of one place, by its index and its mark, and of two places
-abbrev pub apart : List ℕ → ℕ → ℕ → ℕ → ℕ → Bool
-apart numbers i mark j other = not (eqb (numbers ! i) (numbers ! j)) unless (eqb i j || (isFree mark || isFree other))
+-- the rules of one place, and of two
+abbrev pub apart : ℕ → Place → ℕ → Place → Bool
+apart i p j q = not (eqb (p .number .0) (q .number .0)) unless (eqb i j || (isFree (p .mark) || isFree (q .mark)))
 
-abbrev pub belowWaiting : List ℕ → ℕ → ℕ → ℕ → ℕ → Bool
-belowWaiting numbers i mark j other = ltb (numbers ! i) (numbers ! j) unless not (isFlying mark && isWaiting other)
+abbrev pub below : ℕ → Place → Bool
+below next p = ltb (p .number .0) next unless isFree (p .mark)
 
-abbrev pub below : List ℕ → ℕ → ℕ → ℕ → Bool
-below numbers next i mark = ltb (numbers ! i) next unless isFree mark
+abbrev pub belowWaiting : Place → Place → Bool
+belowWaiting p q = ltb (p .number .0) (q .number .0) unless not (isFlying (p .mark) && isWaiting (q .mark))
 
-abbrev pub someNumber : List ℕ → ℕ → ℕ → Bool
-someNumber numbers i mark = leb 1 (numbers ! i) unless isFree mark
+abbrev pub someNumber : Place → Bool
+someNumber p = leb 1 (p .number .0) unless isFree (p .mark)
 
-abbrev pub freeFrom : ℕ → ℕ → ℕ → Bool
-freeFrom count i mark = isFree mark unless ltb i count
+abbrev pub freeFrom : ℕ → ℕ → Place → Bool
+freeFrom count i p = isFree (p .mark) unless ltb i count
 
-abbrev pub emptyPlace : List ℕ → List ℕ → List ℕ → ℕ → ℕ → Bool
-emptyPlace numbers lengths sent i mark = (eqb (numbers ! i) 0 && (eqb (lengths ! i) 0 && eqb (sent ! i) 0)) unless not (isFree mark)
+abbrev pub isEmptied : Place → Bool
+isEmptied p = eqb (p .number .0) 0 && (eqb (p .size) 0 && (eqb (p .sent) 0 && eqb (p .resent) 0))
 
-abbrev pub unsent : List ℕ → ℕ → ℕ → Bool
-unsent sent i mark = eqb (sent ! i) 0 unless not (isWaiting mark)
+abbrev pub emptyWhereFree : Place → Bool
+emptyWhereFree p = isEmptied p unless not (isFree (p .mark))
 
-abbrev pub sentInTime : List ℕ → ℕ → ℕ → ℕ → Bool
-sentInTime sent clock i mark = leb (sent ! i) clock
+abbrev pub unsent : Place → Bool
+unsent p = eqb (p .sent) 0 unless not (isWaiting (p .mark))
 
-abbrev pub lengthWithin : List ℕ → ℕ → ℕ → ℕ → Bool
-lengthWithin lengths chunk i mark = (leb 22 (lengths ! i) && leb (lengths ! i) (chunk + 1044)) unless isFree mark
+abbrev pub sentInTime : ℕ → Place → Bool
+sentInTime clock p = leb (p .sent) clock
 
-abbrev pub knownMark : ℕ → ℕ → Bool
-knownMark i mark = leb mark 2
+abbrev pub lengthWithin : ℕ → Place → Bool
+lengthWithin chunk p = (leb 22 (p .size) && leb (p .size) (chunk + 1044)) unless isFree (p .mark)
+
+abbrev pub neverResent : Place → Bool
+neverResent p = eqb (p .resent) 0 unless not (isWaiting (p .mark))
+
+abbrev pub knownValues : Place → Bool
+knownValues p = leb (p .mark) 2 && leb (p .resent) 1
 
 -- an armed timer is at most 60,000 past the last clock; it may lie before it
 unfoldable pub timerFits : Timer → ℕ → Bool
 timerFits T.Unarmed clock = true
 timerFits (T.At due) clock = leb due (clock + 60000)
 
--- the state rules, in document 01's order; the sizes are judged as they stand, whatever they are
+-- the state rules, in document 01's order, and document 02's; the sizes are judged as they stand, whatever they are
 unfoldable pub rules : Sender → Bool
 rules s =
     -- numbers distinct
-    each (λ i mark. each (apart (s .numbers) i mark) 0 (s .marks)) 0 (s .marks) and
+    eachPlace s (λ i p. eachPlace s (apart i p)) and
     -- below next
-    each (below (s .numbers) (s .next .0)) 0 (s .marks) and
+    eachPlace s (λ i. below (s .next .0)) and
     -- in flight below waiting
-    each (λ i mark. each (belowWaiting (s .numbers) i mark) 0 (s .marks)) 0 (s .marks) and
+    eachPlace s (λ i p. eachPlace s (λ j. belowWaiting p)) and
     -- all of them and next at least 1
-    each (someNumber (s .numbers)) 0 (s .marks) and
+    eachPlace s (λ i. someNumber) and
     leb 1 (s .next .0) and
     -- places from K on free
-    each (freeFrom (s .count)) 0 (s .marks) and
+    eachPlace s (freeFrom (s .count)) and
     -- every field of a free place 0, and the send time of a waiting packet
-    each (emptyPlace (s .numbers) (s .lengths) (s .sent)) 0 (s .marks) and
-    each (unsent (s .sent)) 0 (s .marks) and
+    eachPlace s (λ i. emptyWhereFree) and
+    eachPlace s (λ i. unsent) and
     -- at most 128 in flight
     leb (countOf 2 (s .marks)) 128 and
     -- send times at most the last clock
-    each (sentInTime (s .sent) (s .clock)) 0 (s .marks) and
+    eachPlace s (λ i. sentInTime (s .clock)) and
     -- timer at most 60,000 past it
     timerFits (s .timer) (s .clock) and
     -- window 1 to 128
@@ -93,11 +87,13 @@ rules s =
     -- RTT and deviation below 2^32
     timingFits (s .timing) and
     -- stored lengths 22 to C + 1,044
-    each (lengthWithin (s .lengths) (s .chunk)) 0 (s .marks) and
+    eachPlace s (λ i. lengthWithin (s .chunk)) and
     -- last clock at most 10^15
     leb (s .clock) 1000000000000000 and
-    -- a place is free, waiting or in flight: the table's marks have no other value
-    each knownMark 0 (s .marks)
+    -- document 02, request [5]: a waiting packet is never marked as sent more than once
+    eachPlace s (λ i. neverResent) and
+    -- a place is free, waiting or in flight, and its packet was sent more than once or not: no mark has another value
+    eachPlace s (λ i. knownValues)
 
 -- chunk size C is 1 to 1,812, slot count K 1 to 192
 unfoldable pub countsFit : ℕ → ℕ → Bool

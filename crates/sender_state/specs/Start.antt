@@ -3,13 +3,13 @@ use Prim.Native.Nat.{ℕ}
 use mathlib.Core.Bool.{not}
 use mathlib.Core.List.{[]}
 use lib.Dec.{eqb}
-use lib.ListN.{replicate}
 use Rattle.terms.specs.declared.SeqNo.{SeqNo}
 use Rattle.terms.specs.Ladder.{_when_else_}
 use Rattle.timer.specs.declared.Timing.the-variants as G
 use Rattle.terms.specs.Answers.{Said, refusal, values, _unlessRefused_else_, said}
 use Rattle.sender_state.specs.Answers.{Outcome}
-use Rattle.sender_state.specs.Rules.{stateOf, sizesFit}
+use Rattle.sender_state.specs.Places.{allFree, stateOf}
+use Rattle.sender_state.specs.Rules.{sizesFit}
 use Rattle.sender_state.specs.declared.Timer.the-variants as T
 use Rattle.sender_state.specs.declared.Sender.{Sender}
 use Rattle.sender_state.specs.declared.Started.{Started}
@@ -26,7 +26,7 @@ startSaid first chunk count storeLength =
 -- window 1, nothing stored, timer unarmed, last clock 0
 abbrev pub nothingStored : ℕ → ℕ → ℕ → Sender
 nothingStored chunk count next =
-    stateOf chunk count next 1 G.Unsampled T.Unarmed 0 (replicate 192 0) (replicate 192 0) (replicate 192 0) (replicate 192 0)
+    stateOf chunk count next 1 G.Unsampled T.Unarmed 0 allFree
 
 -- what stands beside a refused start: a state whose next is 0, so that every later call refuses it with 11
 abbrev pub unusable : Sender

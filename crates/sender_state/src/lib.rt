@@ -20,6 +20,17 @@ pub enum Timer {
     At(u64),
 }
 
+// What one place holds: a packet's number and length, when it was last sent, whether it was sent more than once (0 or 1), and the place's mark.
+// The state has a list for each; this is one place of them, for a function that looks at it.
+pub struct Place {
+    pub number: SeqNo,
+    pub size: u32,
+    pub sent: u64,
+    pub resent: u32,
+    // 0 free, 1 waiting, 2 in flight
+    pub mark: u32,
+}
+
 // The state. Place i is the store's bytes from i times the chunk size and 1,044; what it holds stands at index i of each array.
 // Numbers, lengths and marks are 32 bits wide each, so that one vector instruction compares as many of each.
 pub struct Sender {
@@ -37,6 +48,8 @@ pub struct Sender {
     pub numbers: [u32; 192],
     pub lengths: [u32; 192],
     pub sent: [u64; 192],
+    // 1 where the packet was sent more than once
+    pub resent: [u32; 192],
     // 0 free, 1 waiting, 2 in flight
     pub marks: [u32; 192],
 }
@@ -182,6 +195,7 @@ fn empty(chunk: u32, count: u32, next: u32) -> Sender
         numbers: [0u32; 192],
         lengths: [0u32; 192],
         sent: [0u64; 192],
+        resent: [0u32; 192],
         marks: [0u32; 192],
     }
 }

@@ -11,7 +11,7 @@ use lib.Seq.{take-all, drop-drop}
 use Rattle.terms.specs.Lists.{part}
 use Rattle.terms.proofs.Laws.{case}
 use Rattle.sender_state.specs.Table.{countOf, placeOf}
-use Rattle.sender_state.specs.Rules.{stateOf}
+use Rattle.sender_state.specs.Places.{stateOf}
 use Rattle.sender_state.specs.declared.Sender.{Sender}
 use Rattle.sender_state.specs.Numbers.{offsetOf}
 use Rattle.sender_submit.specs.Chunks.{laidAt, Stored, storedBy}
@@ -79,7 +79,8 @@ module _ (bytes : List ℕ) (chunk from to : ℕ) (inside : from ≤ length byte
 -- the state in the midst of storing
 abbrev pub midst : Sender → ℕ → List ℕ → List ℕ → List ℕ → Sender
 midst s next numbers lengths marks =
-    stateOf (s .chunk) (s .count) next (s .window) (s .timing) (s .timer) (s .clock) numbers lengths (s .sent) marks
+    stateOf (s .chunk) (s .count) next (s .window) (s .timing) (s .timer) (s .clock)
+    (record { numbers = numbers; lengths = lengths; sent = s .sent; resent = s .resent; marks = marks })
 
 pub record Storing (packet : ℕ → List ℕ → List ℕ) (whole : Stored) (s : Sender) (bytes : List ℕ) (storeLength : ℕ)
     (store numbers lengths marks : List ℕ) (next from left : ℕ) : Type 0 where

@@ -1,7 +1,7 @@
 -- What submit stores: the bytes in chunks of C, a packet for each, in the lowest free places, ascending.
 use Prim.Native.Nat.{ℕ, zero, suc, _+_}
 use mathlib.Core.List.{List, [], _++_}
-use lib.ListN.{length, set, take, drop}
+use lib.ListN.{length, take, drop}
 use Rattle.terms.specs.Lists.{_atFrontOf_}
 use Rattle.terms.specs.declared.StreamId.{StreamId}
 use Rattle.packet_write.specs.Writing.{packetBytes}
@@ -9,6 +9,7 @@ use Rattle.receiver_state.specs.declared.Receiver.{Receiver}
 use Rattle.receiver_ack.specs.Fields.{ackFieldsOf, ackNacksOf}
 use Rattle.receiver_ack.specs.Acknowledge.{ackedFields}
 use Rattle.sender_state.specs.Table.{placeOf}
+use Rattle.sender_state.specs.Places.{placesOf, joining, stateOf}
 use Rattle.sender_state.specs.declared.Sender.{Sender}
 use Rattle.sender_state.specs.Numbers.{offsetOf}
 
@@ -22,19 +23,8 @@ lowestFree s = placeOf (s .marks) 0
 
 -- a state with a packet so long in its lowest free place, waiting under the next number
 abbrev pub joinedBy : Sender → ℕ → Sender
-joinedBy s size = record {
-  chunk = s .chunk;
-  count = s .count;
-  next = record { 0 = s .next .0 + 1 };
-  window = s .window;
-  timing = s .timing;
-  timer = s .timer;
-  clock = s .clock;
-  numbers = set (s .numbers) (lowestFree s) (s .next .0);
-  lengths = set (s .lengths) (lowestFree s) size;
-  sent = s .sent;
-  marks = set (s .marks) (lowestFree s) 1;
-}
+joinedBy s size =
+    stateOf (s .chunk) (s .count) (s .next .0 + 1) (s .window) (s .timing) (s .timer) (s .clock) (joining (placesOf s) (lowestFree s) (s .next .0) size)
 
 -- a store with a packet at the front of a place, and nothing else touched
 abbrev pub laidAt : ℕ → ℕ → List ℕ → List ℕ → List ℕ

@@ -114,6 +114,7 @@ fn store_all(
     let timing = s.timing;
     let timer = s.timer;
     let sent = s.sent;
+    let resent = s.resent;
     Sender {
         chunk: s.chunk,
         count: s.count,
@@ -125,6 +126,7 @@ fn store_all(
         numbers: numbers,
         lengths: lengths,
         sent: sent,
+        resent: resent,
         marks: marks,
     }
 }

@@ -11,7 +11,7 @@ use Rattle.timer.specs.Timer.{sampledOf, rtoOf}
 use Rattle.timer.specs.Window.{grownOf}
 use Rattle.timer.specs.declared.Timing.{Timing}
 use Rattle.timer.specs.declared.Timing.the-variants as G
-use Rattle.sender_state.specs.Rules.{stateOf}
+use Rattle.sender_state.specs.Places.{stateOf}
 use Rattle.sender_state.specs.Answers.{Outcome}
 use Rattle.sender_state.specs.declared.Sender.{Sender}
 use Rattle.sender_state.specs.declared.Timer.the-variants as T
@@ -87,7 +87,13 @@ sentTimes (age ∷ rest) = (20000 - age) ∷ sentTimes rest
 abbrev flying : List ℕ → ℕ → Sender
 flying ages window =
     stateOf 1 192 (length ages + 1) window G.Unsampled (T.At 20000) 20000
-    (row (numbered 1 ages)) (row (replicate (length ages) 22)) (row (sentTimes ages)) (row (replicate (length ages) 2))
+    (record {
+      numbers = row (numbered 1 ages);
+      lengths = row (replicate (length ages) 22);
+      sent = row (sentTimes ages);
+      resent = row [];
+      marks = row (replicate (length ages) 2);
+    })
 
 abbrev resent : Outcome → ℕ → ℕ → Bool
 resent outcome count window = same (inNumbers (outcome .says)) (0 ∷ count ∷ []) && eqb (outcome .state .window) window

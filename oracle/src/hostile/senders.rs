@@ -77,8 +77,11 @@ fn store(sender: &mut Sender, random: &mut Random, in_flight: usize, waiting: us
         let length = [22, sender.chunk.saturating_add(1_044), 22 + random.below(40) as u32][random.below(3)];
         let length = length.min(sender.chunk.saturating_add(1_044));
         sender.places[i] = match rank < in_flight {
-            true => Place { number, length, sent: sent(sender, random), mark: IN_FLIGHT },
-            false => Place { number, length, sent: 0, mark: WAITING },
+            true => {
+                let resent = random.one_in(3).into();
+                Place { number, length, sent: sent(sender, random), mark: IN_FLIGHT, resent }
+            }
+            false => Place { number, length, sent: 0, mark: WAITING, resent: 0 },
         };
     }
 }
@@ -152,6 +155,9 @@ fn break_rule(sender: &mut Sender, random: &mut Random, rule: &str) -> Option<()
         16 => sender.places[any(random, &stored)?].length = sender.chunk + 1_044 + more,
         17 => sender.clock = random.pick(&[LATEST + u64::from(more), u64::MAX]),
         18 => sender.places[any(random, &stored)?].mark = 2 + more,
+        19 => sender.places[any(random, &free)?].resent = more,
+        20 => sender.places[any(random, &waiting)?].resent = more,
+        21 => sender.places[any(random, &in_flight)?].resent = 1 + more,
         _ => unreachable!("no such rule"),
     }
     Some(())
@@ -187,7 +193,8 @@ fn noise(random: &mut Random) -> Sender {
     sender.timer = random.one_in(2).then(|| long(random));
     for _ in 0..random.below(8) {
         let (number, length, mark) = (random.word(), random.word(), random.word() >> random.below(32));
-        sender.places[random.below(192)] = Place { number, length, sent: long(random), mark };
+        let resent = random.word() >> random.below(32);
+        sender.places[random.below(192)] = Place { number, length, sent: long(random), mark, resent };
     }
     sender
 }

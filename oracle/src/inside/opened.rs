@@ -140,12 +140,15 @@ impl Rig {
     pub fn set_window(&mut self, window: usize) {
         self.stream.window_size = window;
     }
-    /// Replaces a sampled deviation and RTO, so that a run can go on under our rules after a listed difference.
-    pub fn set_timing(&mut self, timing: &Timing) {
-        if let Rto::Sampled((rto, deviation, _)) = &mut self.stream.rto {
-            *rto = Duration::from_millis(timing.rto);
-            *deviation = Duration::from_millis(timing.deviation);
-        }
+    /// Replaces RTT, deviation and RTO, so that a run can go on under our rules after a listed difference.
+    pub fn set_timing(&mut self, timing: Option<&Timing>) {
+        let Some(timing) = timing else {
+            (self.stream.rtt, self.stream.rto) = (Rtt::new(), Rto::new());
+            return;
+        };
+        let [rtt, deviation, rto] = [timing.rtt, timing.deviation, timing.rto].map(Duration::from_millis);
+        // What `exponential_backoff` counts plays no part: `resend` resets the RTO just before it.
+        (self.stream.rtt, self.stream.rto) = (Rtt::Sampled(rtt), Rto::Sampled((rto, deviation, 1)));
     }
 
     // What can be seen.

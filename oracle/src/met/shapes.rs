@@ -9,7 +9,7 @@ use crate::{
     },
 };
 
-pub const SHAPES: [&str; 30] = [
+pub const SHAPES: [&str; 32] = [
     "accept: the next to take",
     "accept: in a gap behind it",
     "accept: above highest",
@@ -27,6 +27,8 @@ pub const SHAPES: [&str; 30] = [
     "send: arms the timer",
     "send: with the timer armed",
     "acks: none",
+    "acks: all sent more than once",
+    "acks: some sent more than once",
     "acks: a first sample",
     "acks: samples after others",
     "acks: a sample above 2^32 - 1",
@@ -83,12 +85,17 @@ pub fn of(world: &World, call: &Call) -> Vec<&'static str> {
         Call::Acks { through, nacks, clock } => {
             let places = in_flight.iter().map(|i| sender.places[*i]);
             let acked = places.filter(|place| place.number <= *through && !nacks.contains(&place.number));
-            let ages: Vec<u64> = acked.map(|place| clock.saturating_sub(place.sent)).collect();
+            let (again, once): (Vec<_>, Vec<_>) = acked.partition(|place| place.resent == 1);
+            let ages: Vec<u64> = once.iter().map(|place| clock.saturating_sub(place.sent)).collect();
             shapes.push(match (ages.len(), sender.timing) {
-                (0, _) => "acks: none",
+                (0, _) if again.is_empty() => "acks: none",
+                (0, _) => "acks: all sent more than once",
                 (_, None) => "acks: a first sample",
                 _ => "acks: samples after others",
             });
+            if !again.is_empty() && !ages.is_empty() {
+                shapes.push("acks: some sent more than once");
+            }
             if ages.iter().any(|age| *age > 4_294_967_295) {
                 shapes.push("acks: a sample above 2^32 - 1");
             }

@@ -238,7 +238,7 @@ fn line_line(reader: &LineReader) -> String {
     format!("{} {} {} {} {}", reader.room, reader.phase, reader.high, reader.size, reader.there)
 }
 
-/// CHUNK COUNT NEXT WINDOW SAMPLED RTT DEVIATION ARMED AT CLOCK N I NUMBER LENGTH SENT MARK ..
+/// CHUNK COUNT NEXT WINDOW SAMPLED RTT DEVIATION ARMED AT CLOCK N I NUMBER LENGTH SENT MARK RESENT ..
 fn sender_line(sender: &Sender) -> String {
     let mut line = format!("{} {} {} {}", sender.chunk, sender.count, sender.next, sender.window);
     let (rtt, deviation) = sender.timing.unwrap_or((0, 0));
@@ -247,8 +247,8 @@ fn sender_line(sender: &Sender) -> String {
     let places: Vec<usize> = (0..192).filter(|i| sender.places[*i] != Place::default()).collect();
     write!(line, " {}", places.len()).unwrap();
     for i in places {
-        let Place { number, length, sent, mark } = sender.places[i];
-        write!(line, " {i} {number} {length} {sent} {mark}").unwrap();
+        let Place { number, length, sent, mark, resent } = sender.places[i];
+        write!(line, " {i} {number} {length} {sent} {mark} {resent}").unwrap();
     }
     line
 }

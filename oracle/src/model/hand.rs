@@ -87,7 +87,7 @@ fn ages() {
         let (timer, next) = (Some(clock), ages.len() as u32 + 1);
         let mut sender = Sender { chunk: 1, count: 3, next, window: 3, timer, clock, ..UNUSABLE };
         for (i, age) in ages.iter().enumerate() {
-            sender.places[i] = Place { number: i as u32 + 1, length: 22, sent: clock - age, mark: IN_FLIGHT };
+            sender.places[i] = Place { number: i as u32 + 1, length: 22, sent: clock - age, mark: IN_FLIGHT, resent: 0 };
         }
         resend(&mut sender, clock, true)
     };

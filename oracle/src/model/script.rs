@@ -147,7 +147,7 @@ impl Rest<'_> {
         for _ in 0..self.count(192)? {
             let i = self.u8().filter(|i| *i < 192)?;
             let (number, length) = (self.u32()?, self.u32()?);
-            record.places.push((i, Place { number, length, sent: self.number(8)?, mark: self.u32()? }));
+            record.places.push((i, Place { number, length, sent: self.number(8)?, mark: self.u32()?, resent: self.u32()? }));
         }
         Some(record)
     }

@@ -15,6 +15,8 @@ pub struct Place {
     pub length: u32,
     pub sent: u64,
     pub mark: u32,
+    /// 1 where the packet was sent more than once (document 02, request [5]).
+    pub resent: u32,
 }
 
 #[derive(Clone)]
@@ -33,7 +35,7 @@ pub struct Sender {
     pub places: [Place; 192],
 }
 
-const NOTHING: Place = Place { number: 0, length: 0, sent: 0, mark: FREE };
+const NOTHING: Place = Place { number: 0, length: 0, sent: 0, mark: FREE, resent: 0 };
 
 /// What the registers hold at first.
 pub const UNUSABLE: Sender =
@@ -42,8 +44,8 @@ pub const UNUSABLE: Sender =
 /// What a refused start leaves (D29): a fresh sender but for its sizes and its next number, which are 0.
 pub const REFUSED: Sender = Sender { window: 1, ..UNUSABLE };
 
-/// The state rules, in document 01's order, and D27. RTT and deviation are below 2^32 by their width.
-pub const RULES: [&str; 19] = [
+/// The state rules, in document 01's order, then D27's and document 02's (D71). RTT and deviation are below 2^32 by their width.
+pub const RULES: [&str; 22] = [
     "numbers distinct",
     "numbers below next",
     "in flight below waiting",
@@ -63,6 +65,9 @@ pub const RULES: [&str; 19] = [
     "stored lengths at most C + 1,044",
     "last clock at most 10^15",
     "marks 0, 1 or 2",
+    "a free place not sent more than once",
+    "a waiting packet not sent more than once",
+    "sent more than once: 0 or 1",
 ];
 
 /// What 10 is about.
@@ -108,6 +113,9 @@ impl Sender {
             stored().all(|place| u64::from(place.length) <= longest),
             self.clock <= LATEST,
             stored().all(|place| place.mark == WAITING || place.mark == IN_FLIGHT),
+            of(FREE).all(|place| place.resent == 0),
+            of(WAITING).all(|place| place.resent == 0),
+            of(IN_FLIGHT).all(|place| place.resent <= 1),
         ];
         RULES.into_iter().zip(holds).filter(|(_, holds)| !holds).map(|(rule, _)| rule).collect()
     }

@@ -1,4 +1,4 @@
-//! Document 01, "Sender": submit, send, acks, resend, fetch.
+//! Document 01, "Sender", with document 02's request [5]: submit, send, acks, resend, fetch.
 use super::{
     ack,
     receiver::Receiver,
@@ -39,7 +39,7 @@ pub fn submit(
     for (chunk, i) in bytes.chunks(sender.chunk as usize).zip(free) {
         let fields = Fields { seq: sender.next, payload: chunk.to_vec(), ..head.clone() };
         let packet = fields.packet().0;
-        sender.places[i] = Place { number: sender.next, length: packet.len() as u32, sent: 0, mark: WAITING };
+        sender.places[i] = Place { number: sender.next, length: packet.len() as u32, sent: 0, mark: WAITING, resent: 0 };
         store[sender.packet_at(i)].copy_from_slice(&packet);
         sender.next += 1;
     }
@@ -85,8 +85,11 @@ pub fn acks(sender: &mut Sender, through: u32, nacks: &[u32], clock: u64) -> Res
     let mut acked = sender.marked(IN_FLIGHT);
     acked.retain(|i| sender.places[*i].number <= through && !nacks.contains(&sender.places[*i].number));
     for i in &acked {
-        let sample = (clock - sender.places[*i].sent).min(4_294_967_295);
-        sender.timing = sampled(sender.timing, sample as u32);
+        // Karn's rule: an ack of a packet that was sent more than once may be for its first copy.
+        if sender.places[*i].resent == 0 {
+            let sample = (clock - sender.places[*i].sent).min(4_294_967_295);
+            sender.timing = sampled(sender.timing, sample as u32);
+        }
         sender.window = grown(sender.window);
         sender.places[*i] = Place::default();
     }
@@ -123,6 +126,7 @@ pub fn resend(sender: &mut Sender, clock: u64, new_path: bool) -> Result<usize, 
     sender.window = fallen(sender.window);
     for i in &expired {
         sender.places[*i].sent = clock;
+        sender.places[*i].resent = 1;
     }
     Ok(expired.len())
 }

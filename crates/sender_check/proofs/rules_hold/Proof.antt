@@ -45,8 +45,8 @@ all-alone-requires c κs = search needs
 
 returns-8 : tie.Need-returns-8
 returns-8 c =
-    let a = c .before .before .before .before .before .before .before .before .before .before .before .before .before .before .before .before in
-    refuted _ (λ t. true≢false (sym (alone-of _ (a .pre .3) (a .pre .0) (ruled _ t)) ∙ sym (c .before .all-alone .ensures) ∙ not-true _ (c .if8 .taken)))
+    let a = c .before .before .before .before .before .before .before .before .before .before .before .before .before .before .before .before .before .before in
+    refuted _ (λ t. true≢false (sym (alone-of _ (a .pre .4) (a .pre .0) (ruled _ t)) ∙ sym (c .before .all-alone .ensures) ∙ not-true _ (c .if8 .taken)))
 
 least-requires : tie.Need-least-requires
 least-requires c κs = search needs
@@ -61,14 +61,14 @@ returns-9 : tie.Need-returns-9
 returns-9 c =
     let e = c .before .before .before in
     let d = e .before .before .before .before .before .before .before .before in
-    let a = d .before .before .before .before .before .before .before .before in
+    let a = d .before .before .before .before .before .before .before .before .before .before in
     let due = sym (e .before .before .before .before .before .before .before .timer-fits .ensures) ∙ not-false _ (e .before .before .before .before .before .before .if5 .left) in
     let timing = sym (e .before .before .before .before .before .timing-fits .ensures) ∙ not-false _ (e .before .before .before .before .if6 .left) in
     let alone = sym (e .before .all-alone .ensures) ∙ not-false _ (e .if8 .left) in
     let few = e .before .before .before .count-of .ensures in
     c .places-hold .ensures
     ∙ rw (c .before .smaller .ensures, c .before .before .least .ensures)
-    (tests-left _ (a .pre .3) (a .pre .0) alone (omega (arith, few, e .before .before .if7 .left)) (d .before .before .before .if1 .left) due (d .before .before .if2 .left) (d .before .if3 .left) timing (d .if4 .left) (omega (arith, a .fits .next)))
+    (tests-left _ (a .pre .4) (a .pre .0) alone (omega (arith, few, e .before .before .if7 .left)) (d .before .before .before .if1 .left) due (d .before .before .if2 .left) (d .before .if3 .left) timing (d .if4 .left) (omega (arith, a .good)))
 
 pub rules-hold-spec : {M : Type 1} → statement M
 rules-hold-spec =

@@ -19,6 +19,9 @@ table c = search needs
 times : (c : tie.Start) → length (c .args .t1 .sent) ≡ 192
 times c = search needs
 
+marked : (c : tie.Start) → length (c .args .t1 .resent) ≡ 192
+marked c = search needs
+
 width : (c : tie.Start) → c .args .t1 .next .0 ≤ 4294967295
 width c = omega (arith, c .good)
 
@@ -30,10 +33,11 @@ slice-aggregate-measure c = search needs
 
 measure-requires : tie.Need-measure-requires
 measure-requires c κs =
-    let a = c .before .before .before .before .before .before .before .before .before .before .before .before .before in (
-      tidy-flags (a .args .t1) (row a) (table a) (width a) (a .args .through) (now (a .args .nacks)) (c .before .before .before .before .before .before .acked-flags .result) (c .before .before .before .before .before .before .acked-flags .ensures)
-          (ruled (a .args .t1) (a .pre)),
+    let f = c .before .before .before .before .before .before .before .before in
+    let a = f .before .before .before .before .before .before .before in (
+      tidy-flags (a .args .t1) (row a) (table a) (width a) (a .args .through) (now (a .args .nacks)) (f .acked-flags .result) (f .acked-flags .ensures) (ruled (a .args .t1) (a .pre)),
       times a,
+      marked a,
     )
 
 freed-requires : tie.Need-freed-requires
@@ -41,8 +45,9 @@ freed-requires c κs = search needs
 
 returns : tie.Need-returns
 returns c =
-    let a = c .before .before .before .before .before .before .before .before .before .before .before .before .before .before .before in
-    acks-made (a .args .t1) (row a) (table a) (width a) (a .args .through) (now (a .args .nacks)) (c .before .before .before .before .before .before .before .before .acked-flags .result) (c .before .before .before .before .before .before .before .before .acked-flags .ensures)
+    let f = c .before .before .before .before .before .before .before .before .before .before in
+    let a = f .before .before .before .before .before .before .before in
+    acks-made (a .args .t1) (row a) (table a) (width a) (a .args .through) (now (a .args .nacks)) (f .acked-flags .result) (f .acked-flags .ensures)
     (a .args .clock) (c .before .measure .result) (c .before .measure .ensures) _ (c .freed .ensures)
 
 pub acks-done-spec : {M : Type 1} → statement M

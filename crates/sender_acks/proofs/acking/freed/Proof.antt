@@ -8,6 +8,9 @@ use Rattle.sender_acks.proofs.acking.freed.Tie as tie
 table : (c : tie.Start) → length (c .args .s .marks) ≡ 192
 table c = search needs
 
+marked : (c : tie.Start) → length (c .args .s .resent) ≡ 192
+marked c = search needs
+
 flags : (c : tie.Start) → length (c .args .t2) ≡ 192
 flags c = search needs
 
@@ -33,11 +36,17 @@ slice-aggregate-replace32-3 : tie.Need-slice-aggregate-replace32-3
 slice-aggregate-replace32-3 c = search needs
 
 replace32-requires-3 : tie.Need-replace32-requires-3
-replace32-requires-3 c κs = let a = c .before .before .before .before .before .before .before .before .before .before .before .before .before .before .before in (table a, flags a)
+replace32-requires-3 c κs = let a = c .before .before .before .before .before .before .before .before .before .before .before .before .before .before .before in (marked a, flags a)
+
+slice-aggregate-replace32-4 : tie.Need-slice-aggregate-replace32-4
+slice-aggregate-replace32-4 c = search needs
+
+replace32-requires-4 : tie.Need-replace32-requires-4
+replace32-requires-4 c κs = let a = c .before .before .before .before .before .before .before .before .before .before .before .before .before .before .before .before .before .before .before in (table a, flags a)
 
 returns : tie.Need-returns
 returns c =
-    let a = c .before .before .before .before .before .before .before .before .before .before .before .before .before .before .before .before .before .args in
+    let a = c .before .before .before .before .before .before .before .before .before .before .before .before .before .before .before .before .before .before .before .before .before .args in
     λ k. record {
       chunk = a .s .chunk;
       count = a .s .count;
@@ -46,10 +55,11 @@ returns c =
       timing = a .timing;
       timer = a .s .timer;
       clock = a .clock;
-      numbers = c .before .before .before .before .before .before .before .before .before .before .before .before .before .replace32 .ensures k;
-      lengths = c .before .before .before .before .before .before .before .before .before .replace322 .ensures k;
-      sent = c .before .before .before .before .before .replace64 .ensures k;
-      marks = c .before .replace323 .ensures k;
+      numbers = c .before .before .before .before .before .before .before .before .before .before .before .before .before .before .before .before .before .replace32 .ensures k;
+      lengths = c .before .before .before .before .before .before .before .before .before .before .before .before .before .replace322 .ensures k;
+      sent = c .before .before .before .before .before .before .before .before .before .replace64 .ensures k;
+      resent = c .before .before .before .before .before .replace323 .ensures k;
+      marks = c .before .replace324 .ensures k;
     }
 
 pub freed-spec : {M : Type 1} → statement M
@@ -64,4 +74,6 @@ freed-spec =
     replace64-requires
     slice-aggregate-replace32-3
     replace32-requires-3
+    slice-aggregate-replace32-4
+    replace32-requires-4
     returns)

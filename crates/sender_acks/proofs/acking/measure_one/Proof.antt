@@ -3,17 +3,17 @@ use borrow.Author.Needs.{needs}
 use Rattle.sender_acks.proofs.acking.measure_one.Statement.{statement}
 use Rattle.sender_acks.proofs.acking.measure_one.Tie as tie
 
-sampled-requires : tie.Need-sampled-requires
-sampled-requires c κs = search needs
+timed-requires : tie.Need-timed-requires
+timed-requires c κs = search needs
 
 window-grown-requires : tie.Need-window-grown-requires
 window-grown-requires c κs = search needs
 
-add-t6 : tie.Need-add-t6
-add-t6 c = search needs
+add-t7 : tie.Need-add-t7
+add-t7 c = search needs
 
 returns : tie.Need-returns
-returns c = rw (c .before .before .sampled .ensures, c .before .window-grown .ensures)
+returns c = rw (c .before .before .timed .ensures, c .before .window-grown .ensures)
 
 pub measure-one-spec : {M : Type 1} → statement M
-measure-one-spec = tie.close (tie.spec sampled-requires window-grown-requires add-t6 returns)
+measure-one-spec = tie.close (tie.spec timed-requires window-grown-requires add-t7 returns)
