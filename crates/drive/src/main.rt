@@ -96,7 +96,7 @@ fn steps(
 
 // Answers the whole script.
 fn main() {
-    let mut bank = [0u64; 1792];
+    let mut bank = [0u64; 1984];
     let mut given = [0u8; 210000];
     let mut out = [0u8; 70000];
     let mut received = [0u8; 930000];

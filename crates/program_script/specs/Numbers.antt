@@ -8,7 +8,7 @@ use Rattle.terms.specs.Ladder.{_when_else_}
 
 -- the number at a place of the bank, and 0 where there is no such place
 abbrev pub numberIn : List ℕ → ℕ → ℕ
-numberIn bank at = getD bank at 0 when ltb at 1792 else 0
+numberIn bank at = getD bank at 0 when ltb at 1984 else 0
 
 -- the k-th NACK of a call
 abbrev pub nackIn : List ℕ → ℕ → ℕ

@@ -133,9 +133,7 @@ impl Draft {
             let more = [random.below(8), 255 - nacks.len(), 256 - nacks.len(), 300 - nacks.len()][random.below(4)];
             nacks.extend((0..more).map(|_| random.word()));
         }
-        if random.one_in(2) {
-            nacks.reverse();
-        }
+        arrange(random, &mut nacks);
         self.ask(Call::Acks { through, nacks, clock });
     }
 
@@ -156,5 +154,19 @@ impl Draft {
         let place = in_flight.get(rank as usize).map_or(22, |i| self.world.sender.places[*i].length.min(70_000));
         let output = self.output(place as usize);
         self.ask(Call::Fetch { rank, output });
+    }
+}
+
+/// Honest peers send NACKs ascending; here they come so, descending, with repeats, and in no order.
+fn arrange(random: &mut Random, nacks: &mut Vec<u32>) {
+    nacks.sort();
+    match random.below(4) {
+        0 => {}
+        1 => nacks.reverse(),
+        2 if !nacks.is_empty() && nacks.len() < 300 => {
+            let again = random.below(nacks.len());
+            nacks.insert(again, nacks[again]);
+        }
+        _ => (1..nacks.len()).for_each(|i| nacks.swap(i, random.below(i + 1))),
     }
 }

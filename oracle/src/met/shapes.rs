@@ -9,7 +9,7 @@ use crate::{
     },
 };
 
-pub const SHAPES: [&str; 32] = [
+pub const SHAPES: [&str; 36] = [
     "accept: the next to take",
     "accept: in a gap behind it",
     "accept: above highest",
@@ -26,6 +26,10 @@ pub const SHAPES: [&str; 32] = [
     "submit: more than 255 missing",
     "send: arms the timer",
     "send: with the timer armed",
+    "acks: NACKs ascending",
+    "acks: NACKs descending",
+    "acks: NACKs with repeats",
+    "acks: NACKs in no order",
     "acks: none",
     "acks: all sent more than once",
     "acks: some sent more than once",
@@ -83,6 +87,9 @@ pub fn of(world: &World, call: &Call) -> Vec<&'static str> {
         Call::Send { .. } if sender.timer.is_none() => shapes.push("send: arms the timer"),
         Call::Send { .. } if !sender.marked(WAITING).is_empty() => shapes.push("send: with the timer armed"),
         Call::Acks { through, nacks, clock } => {
+            if nacks.len() > 1 {
+                shapes.push(order(nacks));
+            }
             let places = in_flight.iter().map(|i| sender.places[*i]);
             let acked = places.filter(|place| place.number <= *through && !nacks.contains(&place.number));
             let (again, once): (Vec<_>, Vec<_>) = acked.partition(|place| place.resent == 1);
@@ -129,5 +136,16 @@ fn fed(reader: &LineReader, portion: &[u8]) -> &'static str {
         rest if rest < length => "feed: not all of a packet",
         rest if rest == length => "feed: a packet and no more",
         _ => "feed: bytes behind a packet",
+    }
+}
+
+/// How two NACKs or more stand.
+fn order(nacks: &[u32]) -> &'static str {
+    let every = |test: fn(u32, u32) -> bool| nacks.windows(2).all(|pair| test(pair[0], pair[1]));
+    match () {
+        () if every(|a, b| a < b) => "acks: NACKs ascending",
+        () if every(|a, b| a > b) => "acks: NACKs descending",
+        () if every(|a, b| a <= b) => "acks: NACKs with repeats",
+        () => "acks: NACKs in no order",
     }
 }

@@ -115,12 +115,12 @@ loop-again c =
     (p .before .before .smaller .ensures) (p .place-of .ensures) (q .put-chunk .ensures .0) (q .put-chunk .ensures .1) (kept q)
 
 same-length : tie.Need-same-length Inv-loop μ-loop
-same-length c = c .before .before .loop .inv .long
+same-length c = c .before .before .before .loop .inv .long
 
 returns : tie.Need-returns Inv-loop μ-loop
 returns c =
-    let h = c .before .before in
-    storing-end (h .loop .inv) (c .before .loop-test .left)
+    let h = c .before .before .before in
+    storing-end (h .loop .inv) (c .before .before .loop-test .left)
 
 pub store-all-spec : {M : Type 1} → statement M
 store-all-spec =
