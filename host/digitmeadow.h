@@ -20,12 +20,22 @@ typedef __UINT16_TYPE__ digitmeadow_u16;
 typedef __UINT32_TYPE__ digitmeadow_u32;
 typedef __SIZE_TYPE__ digitmeadow_size;
 
+/* A stream's id and a packet's sequence number: two kinds, so that neither is handed over for the other. */
+struct digitmeadow_stream_id {
+    digitmeadow_u32 id;
+};
+
+struct digitmeadow_seq_no {
+    digitmeadow_u32 number;
+};
+
 /* A receiver's state. The host keeps it and lends it, beside a store of exactly 512 * slot bytes. Made by hand or damaged, it is
  * refused with 11 unless it keeps document 01's rules. */
 struct digitmeadow_receiver {
     digitmeadow_u32 slot;        /* the slot size S, 1 to 1,812 */
-    digitmeadow_u32 next;        /* the next number to take */
-    digitmeadow_u32 highest;     /* the highest number accepted, or the one that the start came after */
+    struct digitmeadow_seq_no start;    /* the number that the start came after */
+    struct digitmeadow_seq_no next;     /* the next number to take */
+    struct digitmeadow_seq_no highest;  /* the highest number accepted, or the one that the start came after */
     digitmeadow_u16 marks[512];  /* a slot's mark: 0 where it is free, the held payload's length and one where it is not */
 };
 
@@ -62,10 +72,10 @@ struct digitmeadow_part {
 /* A packet as it is read. Where the read is refused, every other number is 0 and every part is empty. */
 struct digitmeadow_fields {
     digitmeadow_u32 refusal;
-    digitmeadow_u32 send_stream_id;
-    digitmeadow_u32 recv_stream_id;
-    digitmeadow_u32 seq_nro;
-    digitmeadow_u32 ack_through;
+    struct digitmeadow_stream_id send_stream_id;
+    struct digitmeadow_stream_id recv_stream_id;
+    struct digitmeadow_seq_no seq_nro;
+    struct digitmeadow_seq_no ack_through;
     digitmeadow_u16 flags;
     digitmeadow_u16 delay;       /* 0 where bit 6 is clear */
     digitmeadow_u16 max_size;    /* 0 where bit 7 is clear */
@@ -77,7 +87,7 @@ struct digitmeadow_fields {
     struct digitmeadow_part payload;
 };
 
-_Static_assert(sizeof(struct digitmeadow_receiver) == 1036, "a receiver's state is 1,036 bytes");
+_Static_assert(sizeof(struct digitmeadow_receiver) == 1040, "a receiver's state is 1,040 bytes");
 _Static_assert(sizeof(struct digitmeadow_counted) == 16, "an answer with a count is 16 bytes");
 _Static_assert(sizeof(struct digitmeadow_fields) == 104, "a packet's fields are 104 bytes");
 _Static_assert(sizeof(struct digitmeadow_line) == 32, "a line's reader is 32 bytes");
@@ -87,15 +97,15 @@ _Static_assert(sizeof(struct digitmeadow_heard) == 56, "what a portion came to i
 struct digitmeadow_fields digitmeadow_read(const digitmeadow_u8 *packet, digitmeadow_size length);
 
 /* Starts a receiver after the number s, with slots of slot bytes: next is s + 1. Gives 0, or 10 where the slot size or the store's
- * length is wrong, or 12 where s is 4,294,967,295. The store is only measured. The state is lent as 1,036 bytes, whatever they hold; a
+ * length is wrong, or 12 where s is 4,294,967,295. The store is only measured. The state is lent as 1,040 bytes, whatever they hold; a
  * refused start leaves them as they were. */
 digitmeadow_u32 digitmeadow_start(
-    struct digitmeadow_receiver *r, digitmeadow_u32 s, digitmeadow_u32 slot, const digitmeadow_u8 *store, digitmeadow_size store_length);
+    struct digitmeadow_receiver *r, struct digitmeadow_seq_no s, digitmeadow_u32 slot, const digitmeadow_u8 *store, digitmeadow_size store_length);
 
 /* Accepts a packet's payload under its number, empty ones too: it stands in the store until it is taken. Gives 0, or 11, 10, 12, 13,
  * 14, 15 or 16, the first of these that applies. */
 digitmeadow_u32 digitmeadow_accept(
-    struct digitmeadow_receiver *r, digitmeadow_u32 number, const digitmeadow_u8 *payload, digitmeadow_size payload_length,
+    struct digitmeadow_receiver *r, struct digitmeadow_seq_no number, const digitmeadow_u8 *payload, digitmeadow_size payload_length,
     digitmeadow_u8 *store, digitmeadow_size store_length);
 
 /* Takes the next payload, if it is held: copies it to the output's front, frees its slot, and gives its length. Refused with 11, 10,
@@ -106,7 +116,8 @@ struct digitmeadow_counted digitmeadow_take(
 /* Writes the plain acknowledgement of a receiver to the output's front, with both stream ids in wire order, and gives its length, for
  * which 1,044 bytes are always enough. Refused with 11, 10, or 7 where the output is shorter than this acknowledgement. */
 struct digitmeadow_counted digitmeadow_acknowledge(
-    const struct digitmeadow_receiver *r, digitmeadow_u32 send_stream_id, digitmeadow_u32 recv_stream_id, digitmeadow_u8 *output, digitmeadow_size output_length);
+    const struct digitmeadow_receiver *r, struct digitmeadow_stream_id send_stream_id, struct digitmeadow_stream_id recv_stream_id,
+    digitmeadow_u8 *output, digitmeadow_size output_length);
 
 /* Starts a reader of a serial line over a buffer of any length, whatever is in it. A packet that is longer than the buffer is refused. */
 struct digitmeadow_line digitmeadow_line_start(const digitmeadow_u8 *buffer, digitmeadow_size buffer_length);

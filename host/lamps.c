@@ -48,7 +48,7 @@ static const char *why(u32 refusal) {
 
 /* Takes all that is ready, or tells what is waited for. */
 static void take_ready(void) {
-    u32 number = lamp.next;
+    u32 number = lamp.next.number;
     struct digitmeadow_counted c = digitmeadow_take(&lamp, store, STORE, shown + filled, IMAGE - filled);
     if (c.refusal != 0) {
         printf(c.refusal == 17 ? ": held, waiting for %u\n" : ": %u is not taken, the image is full\n", number);
@@ -58,7 +58,7 @@ static void take_ready(void) {
         printf("%s", word);
         numbered(number, c.count);
         filled += c.count;
-        number = lamp.next;
+        number = lamp.next.number;
         c = digitmeadow_take(&lamp, store, STORE, shown + filled, IMAGE - filled);
     }
     printf("\n");
@@ -74,7 +74,7 @@ static void acknowledge(void) {
         return;
     }
     if (ack.nacks.len == 0) return;
-    printf("  acknowledged: ack-through %u, NACKs", ack.ack_through);
+    printf("  acknowledged: ack-through %u, NACKs", ack.ack_through.number);
     for (size i = 0; i < ack.nacks.len; i += 4) printf(" %u", get32(out + ack.nacks.at + i));
     printf("\n");
 }
@@ -87,7 +87,7 @@ static void receive(const u8 *bytes, size length, const char *how) {
         return;
     }
     printf("packet ");
-    numbered(p.seq_nro, p.payload.len);
+    numbered(p.seq_nro.number, p.payload.len);
     printf("%s", how);
     u32 refusal = digitmeadow_accept(&lamp, p.seq_nro, bytes + p.payload.at, p.payload.len, store, STORE);
     if (refusal != 0) {
@@ -117,7 +117,7 @@ static void again(u32 number) {
 int main(void) {
     for (size i = 0; i < IMAGE; i++) image[i] = i * 31 % 251;
     printf("An image of 1000 bytes goes to a lamp as packets 1 to 9; packet 2 is empty, as a keep-alive is.\n");
-    u32 refusal = digitmeadow_start(&lamp, 0, SLOT, store, STORE);
+    u32 refusal = digitmeadow_start(&lamp, (struct digitmeadow_seq_no){0}, SLOT, store, STORE);
     if (refusal != 0) {
         printf("start: refused %u\n", refusal);
         return 1;

@@ -52,13 +52,13 @@ static void put_buffer(size n) {
 static void tell_state(void) {
     u32 held = 0;
     for (u32 i = 0; i < 512; i++) held += r.marks[i] != 0;
-    printf(" %u %u %u %u", r.slot, r.next, r.highest, held);
+    printf(" %u %u %u %u %u", r.slot, r.start.number, r.next.number, r.highest.number, held);
     for (u32 i = 0; i < 512; i++)
         if (r.marks[i] != 0) printf(" %u %u", i, r.marks[i]);
 }
 
 static void start(void) {
-    u32 refusal = digitmeadow_start(&r, 0, SLOT, store, STORE);
+    u32 refusal = digitmeadow_start(&r, (struct digitmeadow_seq_no){0}, SLOT, store, STORE);
     if (scripted) {
         putchar('S');
         put(0);
@@ -72,7 +72,7 @@ static void start(void) {
 }
 
 static void accept(u32 number, const u8 *payload, size length) {
-    u32 refusal = digitmeadow_accept(&r, number, payload, length, store, STORE);
+    u32 refusal = digitmeadow_accept(&r, (struct digitmeadow_seq_no){number}, payload, length, store, STORE);
     if (scripted) {
         putchar('a');
         put(number);

@@ -43,7 +43,7 @@ impl Case for Acks {
     }
 
     fn script(&self) -> Vec<u8> {
-        let mut receiver = Receiver { slot: 1, next: self.s + 1, highest: self.s, marks: [0; 512] };
+        let mut receiver = Receiver { slot: 1, start: self.s, next: self.s + 1, highest: self.s, marks: [0; 512] };
         for above in &self.accepted {
             receiver.highest = self.s + above;
             receiver.marks[receiver.highest as usize % 512] = 2;

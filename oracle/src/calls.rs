@@ -51,6 +51,7 @@ pub enum Call {
     Accept { number: u32, payload: Vec<u8> },
     Take(Buffer),
     Acknowledge { ids: [u32; 2], output: Buffer },
+    Why(u32),
     Begin { first: u32, chunk: u32, count: u32, store: Buffer },
     SetSender(SenderRecord),
     SetSenderStore(Buffer),
@@ -84,6 +85,7 @@ impl Call {
             Self::SetReceiverStore(store) => call(b'B').buffer(store),
             Self::Accept { number, payload } => call(b'a').u32(*number).bytes(payload),
             Self::Take(output) => call(b't').buffer(output),
+            Self::Why(number) => call(b'y').u32(*number),
             Self::Acknowledge { ids, output } => call(b'k').u32(ids[0]).u32(ids[1]).buffer(output),
             Self::Begin { first, chunk, count, store } => call(b'Z').u32(*first).u32(*chunk).u32(*count).buffer(store),
             Self::SetSender(record) => sender_of(record),
@@ -159,7 +161,8 @@ fn fields_of(fields: &Fields) -> Script {
 
 fn receiver_of(receiver: &Receiver) -> Script {
     let marks: Vec<_> = (0..512).filter(|i| receiver.marks[*i] != 0).collect();
-    let script = Script::default().u8(b'R').u32(receiver.slot).u32(receiver.next).u32(receiver.highest);
+    let script = Script::default().u8(b'R').u32(receiver.slot).u32(receiver.start);
+    let script = script.u32(receiver.next).u32(receiver.highest);
     let mark = |script: Script, i: &usize| script.u16(*i as u16).u16(receiver.marks[*i]);
     marks.iter().fold(script.u16(marks.len() as u16), mark)
 }

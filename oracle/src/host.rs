@@ -100,7 +100,7 @@ impl Host {
         let number = self.s + above;
         self.rig.accept(number, &[1]).expect("inside the lookahead");
         let held = (self.rig.highest() - self.s) as usize - self.rig.missing().len();
-        let head = vec![0, 1, u64::from(self.s) + 1, self.rig.highest().into(), held as u64];
+        let head = vec![0, 1, self.s.into(), u64::from(self.s) + 1, self.rig.highest().into(), held as u64];
         self.note(Call::Accept { number, payload: vec![1] }, "accept", head);
     }
 

@@ -29,7 +29,7 @@ impl Case for Sequence {
     }
 
     fn compare(&self, ours: &[Answer]) -> Vec<Verdict> {
-        let mut rust = Rust { inbound: Inbound::start(0), slot: 1, next: 1 };
+        let mut rust = Rust { inbound: Inbound::start(0), slot: 1, s: 0, next: 1 };
         let mut verdicts = vec![];
         for (at, (call, ours)) in self.0.iter().zip(ours).enumerate() {
             let (expected, listed) = rust.answer(call);
@@ -58,6 +58,7 @@ impl Case for Sequence {
 struct Rust {
     inbound: Inbound,
     slot: u32,
+    s: u32,
     next: u64,
 }
 
@@ -65,7 +66,7 @@ impl Rust {
     fn answer(&mut self, call: &Call) -> (Answer, Option<&'static str>) {
         match call {
             Call::Start { s, slot, .. } => {
-                *self = Self { inbound: Inbound::start(*s), slot: *slot, next: u64::from(*s) + 1 };
+                *self = Self { inbound: Inbound::start(*s), slot: *slot, s: *s, next: u64::from(*s) + 1 };
                 (Answer::new("start", &[&[0], &self.state()[..]].concat()), None)
             }
             Call::Accept { number, payload } => {
@@ -102,7 +103,7 @@ impl Rust {
         let mut marks: Vec<[u64; 2]> =
             held.into_iter().map(|(number, length)| [number % 512, length as u64 + 1]).collect();
         marks.sort();
-        let head = [self.slot.into(), self.next, self.inbound.highest().into(), marks.len() as u64];
+        let head = [self.slot.into(), self.s.into(), self.next, self.inbound.highest().into(), marks.len() as u64];
         head.into_iter().chain(marks.into_iter().flatten()).collect()
     }
 }

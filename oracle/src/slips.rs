@@ -116,7 +116,7 @@ pub fn check() -> bool {
     let mut changed = 0;
     for slip in &SLIPS {
         let mut rust = Inbound::start(slip.s);
-        let start = Answer::new("start", &[0, 1, u64::from(slip.s) + 1, slip.s.into(), 0]);
+        let start = Answer::new("start", &[0, 1, slip.s.into(), u64::from(slip.s) + 1, slip.s.into(), 0]);
         let started = answers.next() == Some(start);
         println!("slip: {} (start after {}{})", slip.name, slip.s, if started { "" } else { ": CHANGED" });
         changed += usize::from(!started);
@@ -157,7 +157,7 @@ fn ours_says(answer: Option<Answer>) -> String {
     let Some(answer) = answer else { return "no answer".into() };
     match (answer.word.as_str(), &answer.numbers[..]) {
         // The state shows how many numbers are held; the others up to the highest are missing.
-        ("accept", [0, 1, next, highest, held, ..]) => {
+        ("accept", [0, 1, _, next, highest, held, ..]) => {
             format!("next {next}, highest {highest}, missing {}", highest + 1 - next - held)
         }
         ("take", [0, 0, .., sum]) if *sum == checksum(&[FILL]) => "gives \"\"".into(),

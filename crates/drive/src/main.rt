@@ -15,7 +15,7 @@ fn topic(letter: u8) -> u8 {
     match letter {
         b'r' | b'd' | b'w' => 0,
         b'x' | b'g' | b'f' => 1,
-        b'S' | b'R' | b'B' | b'a' | b't' | b'k' => 2,
+        b'S' | b'R' | b'B' | b'a' | b't' | b'k' | b'y' => 2,
         b'u' | b's' | b'h' => 3,
         b'L' | b'I' | b'F' | b'i' => 4,
         _ => 5,

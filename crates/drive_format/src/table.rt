@@ -15,11 +15,12 @@ pub fn at(i: usize) -> u8 {
         g window 4 \n\
         f window 4 \n\
         S start 44s R\n\
-        R receiver 444m R\n\
+        R receiver 4444m R\n\
         B store s +\n\
         a accept 4b R+\n\
         t take o R+\n\
         k ack 44o +\n\
+        y why 4 \n\
         Z begin 444z P\n\
         P sender 4444144188p P\n\
         D store z +\n\

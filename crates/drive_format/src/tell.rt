@@ -66,7 +66,7 @@ fn rows(page: &mut Page, at: usize, bank: &Bank, from: usize, rows: usize, width
 }
 
 fn receiver(page: &mut Page, at: usize, bank: &Bank) -> usize {
-    let end = output::numbers(page, at, bank, RECEIVER, 3);
+    let end = output::numbers(page, at, bank, RECEIVER, 4);
     rows(page, end, bank, MARKS, 512, 1)
 }
 

@@ -1,7 +1,7 @@
-// What `drive` calls on a receiver: 'S' starts it, 'R' and 'B' set its state and its store, 'a' accepts, 't' takes, 'k' acknowledges.
+// What `drive` calls on a receiver: 'S' starts it, 'R' and 'B' set its state and its store, 'a' accepts, 't' takes, 'k' acknowledges, 'y' asks why.
 // The state and what a call asks stand in the registers, and its answer goes there.
 ghost use Rattle.program_script.specs.Numbers.{Filled};
-ghost use Rattle.drive_receiver.specs.Registers.{markIn, ReceiverIn};
+ghost use Rattle.drive_receiver.specs.Registers.{markIn, HeadIn, ReceiverIn};
 use drive_state::tell;
 use program_lines::part;
 use program_script::registers;
@@ -17,7 +17,9 @@ use program_script::registers::Store;
 use program_script::sum;
 use receiver_ack::Acknowledged;
 use receiver_calls::Accepted;
+use receiver_state::Head;
 use receiver_state::Receiver;
+use receiver_why::Reason;
 use terms::SeqNo;
 use terms::StreamId;
 
@@ -33,18 +35,29 @@ fn marks(bank: &Bank) -> [u16; 512]
     marks
 }
 
+fn head(bank: &Bank) -> Head
+    ensures { λ r. ⌜ HeadIn (now (bank .entry)) r ⌝ }
+{
+    let slot = registers::word32(bank, RECEIVER);
+    let start = SeqNo(registers::word32(bank, RECEIVER + 1));
+    let next = SeqNo(registers::word32(bank, RECEIVER + 2));
+    let highest = SeqNo(registers::word32(bank, RECEIVER + 3));
+    Head {
+        slot: slot,
+        start: start,
+        next: next,
+        highest: highest,
+    }
+}
+
 // The receiver of the registers. 'u' is given it too.
 pub fn state(bank: &Bank) -> Receiver
     ensures { λ r. ⌜ ReceiverIn (now (bank .entry)) r ⌝ }
 {
-    let slot = registers::word32(bank, RECEIVER);
-    let next = SeqNo(registers::word32(bank, RECEIVER + 1));
-    let highest = SeqNo(registers::word32(bank, RECEIVER + 2));
+    let head = head(bank);
     let marks = marks(bank);
     Receiver {
-        slot: slot,
-        next: next,
-        highest: highest,
+        head: head,
         marks: marks,
     }
 }
@@ -61,10 +74,15 @@ fn keep_marks(bank: &mut Bank, marks: &[u16; 512]) {
     }
 }
 
+fn keep_head(bank: &mut Bank, h: Head) {
+    registers::put(bank, RECEIVER, h.slot as u64);
+    registers::put(bank, RECEIVER + 1, h.start.0 as u64);
+    registers::put(bank, RECEIVER + 2, h.next.0 as u64);
+    registers::put(bank, RECEIVER + 3, h.highest.0 as u64);
+}
+
 fn keep(bank: &mut Bank, r: Receiver) {
-    registers::put(bank, RECEIVER, r.slot as u64);
-    registers::put(bank, RECEIVER + 1, r.next.0 as u64);
-    registers::put(bank, RECEIVER + 2, r.highest.0 as u64);
+    keep_head(bank, r.head);
     let marks = r.marks;
     keep_marks(bank, &marks);
 }
@@ -79,9 +97,9 @@ fn start(bank: &mut Bank, store: &[u8]) {
     tell::answer(bank, said);
 }
 
-// The state that the call gives stands in its first three fields, and its marks are in their place already.
+// The state that the call gives stands in its first four fields, and its marks are in their place already.
 fn set(bank: &mut Bank) {
-    registers::copy(bank, 0, RECEIVER, 3);
+    registers::copy(bank, 0, RECEIVER, 4);
     bank[COUNT] = 0;
 }
 
@@ -123,6 +141,23 @@ fn acknowledge(bank: &mut Bank, out: &mut [u8]) {
         Acknowledged::Refused(r) => registers::answer2(bank, r.number() as u64, 0),
     }
     bank[SUM] = sum::checksum(out);
+}
+
+// A case by its number, 1 to 8 in the order of `Reason`, and the number that it names.
+fn why(bank: &mut Bank) {
+    let n = SeqNo(registers::word32(bank, 0));
+    let r = state(bank);
+    match receiver_why::why(r, n) {
+        Reason::LastNumber => registers::answer3(bank, 0, 1, 0),
+        Reason::AtOrBelowStart => registers::answer3(bank, 0, 2, 0),
+        Reason::Taken => registers::answer3(bank, 0, 3, 0),
+        Reason::Ready => registers::answer3(bank, 0, 4, 0),
+        Reason::BehindGap(smallest) => registers::answer3(bank, 0, 5, smallest.0 as u64),
+        Reason::Missing => registers::answer3(bank, 0, 6, 0),
+        Reason::NotYetSeen => registers::answer3(bank, 0, 7, 0),
+        Reason::BeyondSpan => registers::answer3(bank, 0, 8, 0),
+        Reason::Refused(r) => registers::answer3(bank, r.number() as u64, 0, 0),
+    }
 }
 
 // The calls with the front of a register as the store or the output.
@@ -167,6 +202,7 @@ pub fn call(bank: &mut Bank, bytes: &Bytes, out: &mut Output, store: &mut Store,
         b'a' => accept_to(bank, bytes, store),
         b't' => take_to(bank, store, out),
         b'k' => acknowledge_to(bank, out),
+        b'y' => why(bank),
         _ => call_to_set(bank, store, letter),
     }
 }

@@ -1,7 +1,7 @@
 -- Any two results that a promise allows are equal: answer, the state behind the reference, and every lent byte. Assumes nothing.
 use Prim.Native.Nat.{ℕ}
 use mathlib.Core.Path.{_≡_, ap}
-use mathlib.Core.List.{List}
+use mathlib.Core.List.{List, []}
 use lib.ListN.{length}
 use Rattle.terms.specs.declared.SeqNo.{SeqNo}
 use Rattle.terms.specs.declared.StreamId.{StreamId}
@@ -14,7 +14,7 @@ use Rattle.receiver_state.specs.declared.Receiver.{Receiver}
 use Rattle.receiver_ack.specs.Acknowledge.{acknowledgeOf}
 use Rattle.host_numbers.specs.declared.Counted.{Counted}
 use Rattle.host_numbers.specs.declared.Fields.{Fields}
-use Rattle.host_numbers.specs.Numbers.{Hosted, hosted, hostedStart, begun, answered, counted, HostedAck, hostedAck, wrote}
+use Rattle.host_numbers.specs.Numbers.{ForHost, forHost, startForHost, withNumber, withCount, AckForHost, ackForHost, withOutput}
 use Rattle.host_numbers.specs.Fields.{hostedRead}
 use Rattle.serial_state.specs.Start.{lineStart}
 use Rattle.serial_state.specs.declared.LineReader.{LineReader}
@@ -28,30 +28,30 @@ digitmeadow-read-determined packet a b p q = determined p q
 
 module _ (s t : Receiver) (x y : List ℕ) where
   -- what two equal outcomes of a call on a receiver leave
-  left : (a b : ℕ) → answered a s x ≡ answered b t y → (a ≡ b) × (s ≡ t) × (x ≡ y)
-  left a b e = (ap (λ (o : Hosted). o .answer .refusal) e, ap (λ (o : Hosted). o .state) e, ap (λ (o : Hosted). o .lent) e)
+  left : (a b : ℕ) → withNumber a s x ≡ withNumber b t y → (a ≡ b) × (s ≡ t) × (x ≡ y)
+  left a b e = (ap (λ (o : ForHost). o .answer .refusal) e, ap (λ (o : ForHost). o .state) e, ap (λ (o : ForHost). o .lent) e)
 
   pub digitmeadow-accept-determined : (r : Receiver) (number : SeqNo) (payload store : List ℕ) (a b : ℕ)
-      → answered a s x ≡ hosted (acceptOf r number payload store) → answered b t y ≡ hosted (acceptOf r number payload store) → (a ≡ b) × (s ≡ t) × (x ≡ y)
+      → withNumber a s x ≡ forHost (acceptOf r number payload store) → withNumber b t y ≡ forHost (acceptOf r number payload store) → (a ≡ b) × (s ≡ t) × (x ≡ y)
   digitmeadow-accept-determined r number payload store a b p q = left a b (determined p q)
 
   pub digitmeadow-take-determined : (r : Receiver) (store output : List ℕ) (a b : Counted)
-      → counted a s x ≡ hosted (takeOf r store output) → counted b t y ≡ hosted (takeOf r store output) → (a ≡ b) × (s ≡ t) × (x ≡ y)
+      → withCount a s x ≡ forHost (takeOf r store output) → withCount b t y ≡ forHost (takeOf r store output) → (a ≡ b) × (s ≡ t) × (x ≡ y)
   digitmeadow-take-determined r store output a b p q =
       let e = determined p q in
-      (ap (λ (o : Hosted). o .answer) e, ap (λ (o : Hosted). o .state) e, ap (λ (o : Hosted). o .lent) e)
+      (ap (λ (o : ForHost). o .answer) e, ap (λ (o : ForHost). o .state) e, ap (λ (o : ForHost). o .lent) e)
 
 pub digitmeadow-start-determined : (r : Receiver) (n : SeqNo) (slot : ℕ) (store : List ℕ) (a b : ℕ) (s t : Receiver)
-    → begun a s ≡ hostedStart r (startOf n slot (length store)) → begun b t ≡ hostedStart r (startOf n slot (length store)) → (a ≡ b) × (s ≡ t)
+    → withNumber a s [] ≡ startForHost r (startOf n slot (length store)) → withNumber b t [] ≡ startForHost r (startOf n slot (length store)) → (a ≡ b) × (s ≡ t)
 digitmeadow-start-determined r n slot store a b s t p q =
     let e = determined p q in
-    (ap (λ (o : Hosted). o .answer .refusal) e, ap (λ (o : Hosted). o .state) e)
+    (ap (λ (o : ForHost). o .answer .refusal) e, ap (λ (o : ForHost). o .state) e)
 
 pub digitmeadow-acknowledge-determined : (r : Receiver) (send recv : StreamId) (output : List ℕ) (a b : Counted) (x y : List ℕ)
-    → wrote a x ≡ hostedAck (acknowledgeOf r send recv output) → wrote b y ≡ hostedAck (acknowledgeOf r send recv output) → (a ≡ b) × (x ≡ y)
+    → withOutput a x ≡ ackForHost (acknowledgeOf r send recv output) → withOutput b y ≡ ackForHost (acknowledgeOf r send recv output) → (a ≡ b) × (x ≡ y)
 digitmeadow-acknowledge-determined r send recv output a b x y p q =
     let e = determined p q in
-    (ap (λ (o : HostedAck). o .answer) e, ap (λ (o : HostedAck). o .output) e)
+    (ap (λ (o : AckForHost). o .answer) e, ap (λ (o : AckForHost). o .output) e)
 
 pub digitmeadow-line-start-determined : (buffer : List ℕ) (a b : LineReader) → a ≡ lineStart buffer → b ≡ lineStart buffer → a ≡ b
 digitmeadow-line-start-determined buffer a b p q = determined p q

@@ -2,13 +2,14 @@
 // place, and a reader of packets on a serial line. Refusals are document 01's numbers, and 0 is none; a slice is a pointer and a length. The header is host/digitmeadow.h.
 // What an answer is in numbers is in `host_numbers`.
 ghost use mathlib.Core.Path.{_≡_};
+ghost use mathlib.Core.List.{[]};
 ghost use lib.ListN.{length};
 ghost use Rattle.packet_read.specs.Reading.{readOf};
 ghost use Rattle.receiver_state.specs.Start.{startOf};
 ghost use Rattle.receiver_calls.specs.Accept.{acceptOf};
 ghost use Rattle.receiver_calls.specs.Take.{takeOf};
 ghost use Rattle.receiver_ack.specs.Acknowledge.{acknowledgeOf};
-ghost use Rattle.host_numbers.specs.Numbers.{hosted, hostedStart, begun, answered, counted, hostedAck, wrote};
+ghost use Rattle.host_numbers.specs.Numbers.{forHost, startForHost, withNumber, withCount, ackForHost, withOutput};
 ghost use Rattle.host_numbers.specs.Fields.{hostedRead};
 ghost use Rattle.serial_state.specs.Start.{lineStart};
 ghost use Rattle.serial_feed.specs.Feed.{feedOf};
@@ -20,6 +21,7 @@ use packet_read::Reading;
 use receiver_state::Receiver;
 use serial_state::LineReader;
 use terms::SeqNo;
+use terms::StreamId;
 
 // Reads a packet: `packet_read::read`.
 #[no_mangle]
@@ -34,8 +36,8 @@ pub extern "C" fn digitmeadow_read(packet: &[u8]) -> Fields
 
 // Starts a receiver after the number s: `receiver_state::start`, into the state that is lent, which a refused start leaves as it was.
 #[no_mangle]
-pub extern "C" fn digitmeadow_start(r: &mut Receiver, s: u32, slot: u32, store: &[u8]) -> u32
-    ensures { λ c. ⌜ begun c (now (r .exit)) ≡ hostedStart (now (r .entry)) (startOf (record { 0 = s }) slot (length (now (store .entry)))) ⌝ }
+pub extern "C" fn digitmeadow_start(r: &mut Receiver, s: SeqNo, slot: u32, store: &[u8]) -> u32
+    ensures { λ c. ⌜ withNumber c (now (r .exit)) [] ≡ startForHost (now (r .entry)) (startOf s slot (length (now (store .entry)))) ⌝ }
 {
     let b = host_numbers::begin(*r, s, slot, store);
     *r = b.state;
@@ -46,22 +48,21 @@ pub extern "C" fn digitmeadow_start(r: &mut Receiver, s: u32, slot: u32, store: 
 #[no_mangle]
 pub extern "C" fn digitmeadow_accept(
     r: &mut Receiver,
-    number: u32,
+    number: SeqNo,
     payload: &[u8],
     store: &mut [u8],
 ) -> u32
-    ensures { λ c. ⌜ answered c (now (r .exit)) (now (store .exit))
-        ≡ hosted (acceptOf (now (r .entry)) (record { 0 = number }) (now (payload .entry)) (now (store .entry))) ⌝ }
+    ensures { λ c. ⌜ withNumber c (now (r .exit)) (now (store .exit))
+        ≡ forHost (acceptOf (now (r .entry)) number (now (payload .entry)) (now (store .entry))) ⌝ }
 {
-    let seq = SeqNo(number);
-    let answer = receiver_in_place::accept_lent(r, seq, payload, store);
+    let answer = receiver_in_place::accept_lent(r, number, payload, store);
     host_numbers::of_answer(answer)
 }
 
 // Takes the next payload, if it is held: `receiver_in_place::take_lent`.
 #[no_mangle]
 pub extern "C" fn digitmeadow_take(r: &mut Receiver, store: &[u8], output: &mut [u8]) -> Counted
-    ensures { λ c. ⌜ counted c (now (r .exit)) (now (output .exit)) ≡ hosted (takeOf (now (r .entry)) (now (store .entry)) (now (output .entry))) ⌝ }
+    ensures { λ c. ⌜ withCount c (now (r .exit)) (now (output .exit)) ≡ forHost (takeOf (now (r .entry)) (now (store .entry)) (now (output .entry))) ⌝ }
 {
     let answer = receiver_in_place::take_lent(r, store, output);
     host_numbers::of_given(answer)
@@ -71,11 +72,11 @@ pub extern "C" fn digitmeadow_take(r: &mut Receiver, store: &[u8], output: &mut 
 #[no_mangle]
 pub extern "C" fn digitmeadow_acknowledge(
     r: &Receiver,
-    send: u32,
-    recv: u32,
+    send: StreamId,
+    recv: StreamId,
     output: &mut [u8],
 ) -> Counted
-    ensures { λ c. ⌜ wrote c (now (output .exit)) ≡ hostedAck (acknowledgeOf (now (r .entry)) (record { 0 = send }) (record { 0 = recv }) (now (output .entry))) ⌝ }
+    ensures { λ c. ⌜ withOutput c (now (output .exit)) ≡ ackForHost (acknowledgeOf (now (r .entry)) send recv (now (output .entry))) ⌝ }
 {
     host_numbers::acknowledgement(*r, send, recv, output)
 }

@@ -14,10 +14,10 @@ partOf s = record { at = s .at; len = s .len }
 abbrev pub hostedPacket : ℕ → Packet → Fields
 hostedPacket number p = record {
   refusal = number;
-  «send_stream_id» = p .«send_stream_id» .0;
-  «recv_stream_id» = p .«recv_stream_id» .0;
-  «seq_nro» = p .«seq_nro» .0;
-  «ack_through» = p .«ack_through» .0;
+  «send_stream_id» = p .«send_stream_id»;
+  «recv_stream_id» = p .«recv_stream_id»;
+  «seq_nro» = p .«seq_nro»;
+  «ack_through» = p .«ack_through»;
   flags = p .flags;
   delay = p .delay;
   «max_size» = p .«max_size»;

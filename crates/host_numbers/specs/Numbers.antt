@@ -16,37 +16,34 @@ abbrev pub inNumbers : Said → Counted
 inNumbers (refusal number) = record { refusal = number; count = 0 }
 inNumbers (values given) = record { refusal = 0; count = firstOr0 given }
 
--- the outcome of a call on a receiver, in numbers
-pub record Hosted : Type 0 where
+-- what a host finds after a call on a receiver: the answer in numbers, the state behind the reference, and what was lent to change
+pub record ForHost : Type 0 where
   pub answer : Counted
   pub state : Receiver
   pub lent : List ℕ
 
-abbrev pub hosted : Outcome → Hosted
-hosted o = record { answer = inNumbers (o .says); state = o .state; lent = o .lent }
+-- what it is to find where the call has this outcome
+abbrev pub forHost : Outcome → ForHost
+forHost o = record { answer = inNumbers (o .says); state = o .state; lent = o .lent }
 
--- a call that gives nothing but a refusal's number, or 0
-abbrev pub answered : ℕ → Receiver → List ℕ → Hosted
-answered number state lent = record { answer = record { refusal = number; count = 0 }; state = state; lent = lent }
+-- the same of a start, which is lent a state: where it is refused, that state stays as it was
+abbrev pub startForHost : Receiver → Outcome → ForHost
+startForHost before o = record { answer = inNumbers (o .says); state = o .state unlessRefused o .says else before; lent = [] }
 
--- the outcome of a start, which is lent a state: where it is refused, that state stays as it was
-abbrev pub hostedStart : Receiver → Outcome → Hosted
-hostedStart before o = record { answer = inNumbers (o .says); state = o .state unlessRefused o .says else before; lent = [] }
-
--- a start is lent no byte to change beside the state
-abbrev pub begun : ℕ → Receiver → Hosted
-begun number state = answered number state []
-
-abbrev pub counted : Counted → Receiver → List ℕ → Hosted
-counted answer state lent = record { answer = answer; state = state; lent = lent }
-
--- the outcome of an acknowledgement, in numbers
-pub record HostedAck : Type 0 where
+-- and of an acknowledgement, which is lent an output and leaves the state
+pub record AckForHost : Type 0 where
   pub answer : Counted
   pub output : List ℕ
 
-abbrev pub hostedAck : Acknowledges → HostedAck
-hostedAck a = record { answer = inNumbers (a .says); output = a .output }
+abbrev pub ackForHost : Acknowledges → AckForHost
+ackForHost a = record { answer = inNumbers (a .says); output = a .output }
 
-abbrev pub wrote : Counted → List ℕ → HostedAck
-wrote answer output = record { answer = answer; output = output }
+-- results of the code, as what the host finds: with a number alone, with a count too, and with an output
+abbrev pub withNumber : ℕ → Receiver → List ℕ → ForHost
+withNumber number state lent = record { answer = record { refusal = number; count = 0 }; state = state; lent = lent }
+
+abbrev pub withCount : Counted → Receiver → List ℕ → ForHost
+withCount answer state lent = record { answer = answer; state = state; lent = lent }
+
+abbrev pub withOutput : Counted → List ℕ → AckForHost
+withOutput answer output = record { answer = answer; output = output }

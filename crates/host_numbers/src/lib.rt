@@ -1,11 +1,12 @@
 // What the calls of the receiving half give a host in C, which knows numbers and no enum: each answer in numbers, and a start and an
 // acknowledgement on a state by value. A refusal is document 01's number, and 0 is none. The exported calls are in `host_library`.
 ghost use mathlib.Core.Path.{_≡_};
+ghost use mathlib.Core.List.{[]};
 ghost use lib.ListN.{length};
 ghost use Rattle.terms.specs.Answers.{refusal, values, said, saidOf};
 ghost use Rattle.receiver_state.specs.Start.{startOf};
 ghost use Rattle.receiver_ack.specs.Acknowledge.{said as ackSaid, acknowledgeOf};
-ghost use Rattle.host_numbers.specs.Numbers.{inNumbers, hostedStart, begun, hostedAck, wrote};
+ghost use Rattle.host_numbers.specs.Numbers.{inNumbers, startForHost, withNumber, ackForHost, withOutput};
 ghost use Rattle.host_numbers.specs.Fields.{partOf, hostedRead};
 use packet_read::Packet;
 use packet_read::Span;
@@ -34,10 +35,10 @@ pub struct Part {
 #[repr(C)]
 pub struct Fields {
     pub refusal: u32,
-    pub send_stream_id: u32,
-    pub recv_stream_id: u32,
-    pub seq_nro: u32,
-    pub ack_through: u32,
+    pub send_stream_id: StreamId,
+    pub recv_stream_id: StreamId,
+    pub seq_nro: SeqNo,
+    pub ack_through: SeqNo,
     pub flags: u16,
     pub delay: u16,
     pub max_size: u16,
@@ -106,12 +107,16 @@ pub fn of_packet(p: Packet) -> Fields
     let destination = of_span(p.destination);
     let signature = of_span(p.signature);
     let payload = of_span(p.payload);
+    let send = p.send_stream_id;
+    let recv = p.recv_stream_id;
+    let seq = p.seq_nro;
+    let through = p.ack_through;
     Fields {
         refusal: 0,
-        send_stream_id: p.send_stream_id.0,
-        recv_stream_id: p.recv_stream_id.0,
-        seq_nro: p.seq_nro.0,
-        ack_through: p.ack_through.0,
+        send_stream_id: send,
+        recv_stream_id: recv,
+        seq_nro: seq,
+        ack_through: through,
         flags: p.flags,
         delay: p.delay,
         max_size: p.max_size,
@@ -129,12 +134,14 @@ pub fn of_refusal(number: u32) -> Fields
     ensures { λ r. ⌜ r ≡ hostedRead (refusal number) ⌝ }
 {
     let none = Part { at: 0, len: 0 };
+    let stream = StreamId(0);
+    let seq = SeqNo(0);
     Fields {
         refusal: number,
-        send_stream_id: 0,
-        recv_stream_id: 0,
-        seq_nro: 0,
-        ack_through: 0,
+        send_stream_id: stream,
+        recv_stream_id: stream,
+        seq_nro: seq,
+        ack_through: seq,
         flags: 0,
         delay: 0,
         max_size: 0,
@@ -154,11 +161,10 @@ pub struct Begun {
 }
 
 // The state that is started, or where the start is refused the one that was given.
-pub fn begin(r: Receiver, s: u32, slot: u32, store: &[u8]) -> Begun
-    ensures { λ b. ⌜ begun (b .refusal) (b .state) ≡ hostedStart r (startOf (record { 0 = s }) slot (length (now (store .entry)))) ⌝ }
+pub fn begin(r: Receiver, s: SeqNo, slot: u32, store: &[u8]) -> Begun
+    ensures { λ b. ⌜ withNumber (b .refusal) (b .state) [] ≡ startForHost r (startOf s slot (length (now (store .entry)))) ⌝ }
 {
-    let after = SeqNo(s);
-    let started = receiver_state::start(after, slot, store);
+    let started = receiver_state::start(s, slot, store);
     let answer = started.answer;
     let state = started.state;
     match answer {
@@ -173,11 +179,9 @@ pub fn begin(r: Receiver, s: u32, slot: u32, store: &[u8]) -> Begun
     }
 }
 
-pub fn acknowledgement(r: Receiver, send: u32, recv: u32, output: &mut [u8]) -> Counted
-    ensures { λ c. ⌜ wrote c (now (output .exit)) ≡ hostedAck (acknowledgeOf r (record { 0 = send }) (record { 0 = recv }) (now (output .entry))) ⌝ }
+pub fn acknowledgement(r: Receiver, send: StreamId, recv: StreamId, output: &mut [u8]) -> Counted
+    ensures { λ c. ⌜ withOutput c (now (output .exit)) ≡ ackForHost (acknowledgeOf r send recv (now (output .entry))) ⌝ }
 {
-    let to = StreamId(send);
-    let from = StreamId(recv);
-    let answer = receiver_ack::acknowledge(r, to, from, output);
+    let answer = receiver_ack::acknowledge(r, send, recv, output);
     of_acknowledged(answer)
 }

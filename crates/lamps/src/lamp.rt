@@ -56,7 +56,7 @@ fn sum(filled: usize, n: usize) -> usize {
 fn take_next(lamp: Lamp, word: &[u8], store: &Store, shown: &mut Image) -> Step {
     let filled = lamp.filled;
     let r = lamp.receiver;
-    let number = r.next.0;
+    let number = r.head.next.0;
     let done = take_at(shown, filled, r, store);
     let after = done.state;
     let answer = done.answer;
@@ -101,7 +101,7 @@ fn take_ready(lamp: Lamp, store: &Store, shown: &mut Image) -> Lamp {
     let first = take_next(lamp, b": taken ", store, shown);
     if !first.took {
         let r = lamp.receiver;
-        tell::held(r.next.0);
+        tell::held(r.head.next.0);
         return lamp;
     }
     let begun = first.lamp;

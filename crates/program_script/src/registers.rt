@@ -32,10 +32,10 @@ pub const SUM: usize = 19;
 
 pub const ANSWERS: usize = 32;
 
-// The receiver: slot size, next, highest; its store's length; its 512 marks.
+// The receiver: slot size, start, next, highest; its store's length; its 512 marks.
 pub const RECEIVER: usize = 64;
 
-pub const RECEIVER_STORE: usize = 67;
+pub const RECEIVER_STORE: usize = 71;
 
 pub const MARKS: usize = 512;
 

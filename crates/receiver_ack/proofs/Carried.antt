@@ -54,8 +54,8 @@ module _ (r : Receiver) (send recv : StreamId) where
     ranged : send .0 < 2 ^ 32 → recv .0 < 2 ^ 32 → number < 2 ^ 32 → Ranged (ackedFields (ackFieldsOf r) send recv number)
     unfolding fieldsFrom
     ranged s t n =
-        let k = ruled (r .slot) (r .next .0) (r .highest .0) (r .marks) keeps in
-        let choked = atLeast255 (missingFrom (r .next .0) (r .highest .0) (r .marks)) in
+        let k = ruled r keeps in
+        let choked = atLeast255 (missingFrom (r .head .next .0) (r .head .highest .0) (r .marks)) in
         record {
           send-fits = s;
           recv-fits = t;
@@ -69,11 +69,11 @@ module _ (r : Receiver) (send recv : StreamId) where
 
     nacks-fit : all (fits 4) (ackNacksOf r) ≡ true
     nacks-fit =
-        let k = ruled (r .slot) (r .next .0) (r .highest .0) (r .marks) keeps in
+        let k = ruled r keeps in
         all-implies (isMissing r) (fits 4) (ackNacksOf r)
         (λ n h.
-        let up = and-left (leb n (r .highest .0)) (isFree (markOf (r .marks) n)) (and-right (leb (r .next .0) n) (leb n (r .highest .0) && isFree (markOf (r .marks) n)) h) in
-        lt-ltb n (256 ^ 4) (omega (arith, leb-true n (r .highest .0) up, k .last)))
+        let up = and-left (leb n (r .head .highest .0)) (isFree (markOf (r .marks) n)) (and-right (leb (r .head .next .0) n) (leb n (r .head .highest .0) && isFree (markOf (r .marks) n)) h) in
+        lt-ltb n (256 ^ 4) (omega (arith, leb-true n (r .head .highest .0) up, k .last)))
         (nacks-missing r)
 
     -- with 65,535 bytes of room the writer takes it
@@ -81,9 +81,9 @@ module _ (r : Receiver) (send recv : StreamId) where
         ≡ written (length (packetBytes (ackedFields (ackFieldsOf r) send recv number) (ackNacksOf r) [] [] payload)) 0
     unfolding fieldsFrom
     taken short =
-        let m = missingFrom (r .next .0) (r .highest .0) (r .marks) in
-        let through = ackThrough m (r .highest .0) in
-        let few = nacks-few (r .next .0) (r .highest .0) (r .marks) in
+        let m = missingFrom (r .head .next .0) (r .head .highest .0) (r .marks) in
+        let through = ackThrough m (r .head .highest .0) in
+        let few = nacks-few (r .head .next .0) (r .head .highest .0) (r .marks) in
         let p = packetBytes (ackedFields (ackFieldsOf r) send recv number) (ackNacksOf r) [] [] payload in
         let most : length p ≤ 65535 = omega (arith, packet-most through send recv number (ackNacksOf r) payload (atLeast255 m) few) in
         rw (packet-written through send recv number (ackNacksOf r) payload (atLeast255 m) 65535 few short, le-ltb 65535 (length p) most)
@@ -93,7 +93,7 @@ module _ (r : Receiver) (send recv : StreamId) where
         → Carries r send recv number payload (packetBytes (ackedFields (ackFieldsOf r) send recv number) (ackNacksOf r) [] [] payload)
     acked-reads s t n short =
         let f = ackedFields (ackFieldsOf r) send recv number in
-        let count = count-here f (ackNacksOf r) payload (nacks-few (r .next .0) (r .highest .0) (r .marks)) in
+        let count = count-here f (ackNacksOf r) payload (nacks-few (r .head .next .0) (r .head .highest .0) (r .marks)) in
         let back = reads-back f (ackNacksOf r) [] [] payload 65535 _ (ranged s t n) nacks-fit (taken short) in
         record {
           fields-read = back .fields-back;

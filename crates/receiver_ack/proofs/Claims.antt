@@ -23,25 +23,25 @@ use Rattle.receiver_ack.proofs.Among.{all-among, missing-among, missing
 module _ (r : Receiver) where
   -- The missing numbers: a number is among them exactly if it is missing, and they ascend.
   pub missing-told : (n : ℕ) → isAmong n (missingOf r) ≡ isMissing r n
-  missing-told n = missing-among (r .next .0) (r .highest .0) (r .marks) n
+  missing-told n = missing-among (r .head .next .0) (r .head .highest .0) (r .marks) n
 
   pub missing-all : all (isMissing r) (missingOf r) ≡ true
   missing-all = all-among (isMissing r) (missingOf r) (λ n h. sym (missing-told n) ∙ h)
 
   pub missing-in-order : ascending (missingOf r) ≡ true
-  missing-in-order = missing-ascending (r .next .0) (r .highest .0) (r .marks)
+  missing-in-order = missing-ascending (r .head .next .0) (r .head .highest .0) (r .marks)
 
   -- a law that holds with at most 255 missing, and with more
   by-count : {C : Type 0} → (length (missingOf r) ≤ 255 → C) → (255 < length (missingOf r) → C) → C
   by-count f g = case f (λ (h : length (missingOf r) ≤ 255 → ⊥). g (omega arith)) (decLe (length (missingOf r)) 255)
 
   -- Ack-through never exceeds highest.
-  pub through-at-most : ackThroughOf r ≤ r .highest .0
+  pub through-at-most : ackThroughOf r ≤ r .head .highest .0
   unfolding fieldsFrom
   through-at-most =
       by-count
       (λ h. rw (le-leb (length (missingOf r)) 255 h) (omega arith))
-      (λ h. rw (lt-leb (length (missingOf r)) 255 h) (omega (arith, missing-at (r .next .0) (r .highest .0) (r .marks) 255 h)))
+      (λ h. rw (lt-leb (length (missingOf r)) 255 h) (omega (arith, missing-at (r .head .next .0) (r .head .highest .0) (r .marks) 255 h)))
 
   -- The NACKs are at most 255, ascend, and are all missing.
   pub nacks-in-order : ascending (ackNacksOf r) ≡ true
@@ -70,13 +70,13 @@ module _ (r : Receiver) where
       among-first n 255 (missingOf r) missing-in-order h (omega (arith, climbs 255 (missingOf r) missing-in-order h)) ∙ missing-told n))
 
   -- A number up to highest is taken, held or missing.
-  pub received-told : (store : List ℕ) (n : ℕ) → n ≤ r .highest .0 → isReceived (standing r store n) ≡ not (isMissing r n)
+  pub received-told : (store : List ℕ) (n : ℕ) → n ≤ r .head .highest .0 → isReceived (standing r store n) ≡ not (isMissing r n)
   received-told store n up =
       where-is r n
-      (λ a. rw (is-taken r store n a, lt-leb (r .next .0) n a))
+      (λ a. rw (is-taken r store n a, lt-leb (r .head .next .0) n a))
       (λ a b. absurd (omega arith))
-      (λ a b z. rw (is-missing r store n a b z, le-leb (r .next .0) n a, le-leb n (r .highest .0) b, eq-eqb (markOf (r .marks) n) 0 z))
-      (λ a b z. rw (is-held r store n a b z, le-leb (r .next .0) n a, le-leb n (r .highest .0) b, ne-eqb (markOf (r .marks) n) 0 z))
+      (λ a b z. rw (is-missing r store n a b z, le-leb (r .head .next .0) n a, le-leb n (r .head .highest .0) b, eq-eqb (markOf (r .marks) n) 0 z))
+      (λ a b z. rw (is-held r store n a b z, le-leb (r .head .next .0) n a, le-leb n (r .head .highest .0) b, ne-eqb (markOf (r .marks) n) 0 z))
 
   -- A number up to ack-through is absent from the NACKs exactly if it is taken, at most the s that the start came after, or held.
   pub absent-received : (store : List ℕ) (n : ℕ) → n ≤ ackThroughOf r → not (isAmong n (ackNacksOf r)) ≡ isReceived (standing r store n)

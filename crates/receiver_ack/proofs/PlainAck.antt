@@ -18,7 +18,7 @@ use Rattle.terms.specs.Answers.{Said, refusal, values}
 use Rattle.receiver_state.specs.Rules.{rulesOf, slotFits, sizesFit}
 use Rattle.receiver_calls.specs.Meaning.{Sound}
 use Rattle.receiver_state.specs.declared.Receiver.{Receiver}
-use Rattle.receiver_ack.specs.Acknowledge.{plainAck, plainAckOf, acknowledgeSaid, acknowledges, acknowledgeOf}
+use Rattle.receiver_ack.specs.Acknowledge.{plainAck, plainAckOf, acknowledgeSaid, acknowledgeOf}
 use Rattle.receiver_ack.proofs.Ways.{ack-most}
 use Rattle.receiver_ack.proofs.Carried.{Carries, acked-reads}
 
@@ -26,7 +26,7 @@ use Rattle.receiver_ack.proofs.Carried.{Carries, acked-reads}
 
 -- The packet never exceeds 1,044 bytes.
 pub at-most-1044 : (r : Receiver) (send recv : StreamId) → length (plainAckOf r send recv) ≤ 1044
-at-most-1044 r send recv = ack-most (r .next .0) (r .highest .0) (r .marks) send recv
+at-most-1044 r send recv = ack-most (r .head .next .0) (r .head .highest .0) (r .marks) send recv
 
 -- The packet p is, as our reader reads it, the plain ack of the receiver r: exactly these fields and NACKs, no leftover, empty parts.
 abbrev pub ReadsAs : Receiver → StreamId → StreamId → List ℕ → Type 0
@@ -36,7 +36,7 @@ ReadsAs r send recv p = Carries r send recv 0 [] p
 -- stands at the output's front.
 pub record Written (r : Receiver) (send recv : StreamId) (output : List ℕ) (n : ℕ) : Type 0 where
   pub keeps : rulesOf r ≡ true
-  pub sized : slotFits (r .slot) ≡ true
+  pub sized : slotFits (r .head .slot) ≡ true
   pub room : length (plainAckOf r send recv) ≤ length output
   pub long : n ≡ length (plainAckOf r send recv)
   pub stands : acknowledgeOf r send recv output .output ≡ plainAckOf r send recv atFrontOf output
@@ -54,32 +54,32 @@ module _ (r : Receiver) (send recv : StreamId) where
   -- THE CALL
 
   module _ (output : List ℕ) where
-    said-is : acknowledgeSaid (r .slot) (r .next .0) (r .highest .0) (r .marks) send recv (length output) ≡ acknowledgeOf r send recv output .says
-    unfolding acknowledges
+    said-is : acknowledgeSaid r send recv (length output) ≡ acknowledgeOf r send recv output .says
+    unfolding acknowledgeOf
     said-is = refl
 
     -- a refusal changes nothing
     pub acknowledge-nothing : (n : ℕ) → acknowledgeOf r send recv output .says ≡ refusal n → acknowledgeOf r send recv output .output ≡ output
-    unfolding acknowledges
+    unfolding acknowledgeOf
     acknowledge-nothing n e = rw e
 
     -- a state that breaks the rules is refused with 11, and a slot size out of range with 10
     pub acknowledge-broken : rulesOf r ≡ false → acknowledgeOf r send recv output .says ≡ refusal 11
-    unfolding acknowledges acknowledgeSaid
+    unfolding acknowledgeOf acknowledgeSaid
     acknowledge-broken e = simp e
 
-    pub acknowledge-unfit : rulesOf r ≡ true → slotFits (r .slot) ≡ false → acknowledgeOf r send recv output .says ≡ refusal 10
-    unfolding acknowledges acknowledgeSaid
+    pub acknowledge-unfit : rulesOf r ≡ true → slotFits (r .head .slot) ≡ false → acknowledgeOf r send recv output .says ≡ refusal 10
+    unfolding acknowledgeOf acknowledgeSaid
     acknowledge-unfit e f = simp (e, f)
 
     -- else its length decides
-    pub acknowledge-by-room : rulesOf r ≡ true → slotFits (r .slot) ≡ true
+    pub acknowledge-by-room : rulesOf r ≡ true → slotFits (r .head .slot) ≡ true
         → acknowledgeOf r send recv output .says ≡ (refusal 7 when ltb (length output) (length (plainAckOf r send recv)) else values (length (plainAckOf r send recv) ∷ []))
-    unfolding acknowledges acknowledgeSaid
+    unfolding acknowledgeOf acknowledgeSaid
     acknowledge-by-room e f = simp (e, f)
 
     -- a refused call: with 7 where neither the rules nor the slot size were at fault
-    pub acknowledge-fair : rulesOf r ≡ true → slotFits (r .slot) ≡ true → (n : ℕ) → acknowledgeOf r send recv output .says ≡ refusal n → n ≡ 7
+    pub acknowledge-fair : rulesOf r ≡ true → slotFits (r .head .slot) ≡ true → (n : ℕ) → acknowledgeOf r send recv output .says ≡ refusal n → n ≡ 7
     acknowledge-fair e f n h =
         only-7 (ltb (length output) (length (plainAckOf r send recv))) (length (plainAckOf r send recv)) n (sym (acknowledge-by-room e f) ∙ h)
 
@@ -87,36 +87,36 @@ module _ (r : Receiver) (send recv : StreamId) where
     pub acknowledge-sound : (store : List ℕ) → Sound r store → (n : ℕ) → acknowledgeOf r send recv output .says ≡ refusal n → n ≡ 7
     unfolding sizesFit
     acknowledge-sound store sound n h =
-        acknowledge-fair (sound .keeps) (and-left (slotFits (r .slot)) (eqb (length store) (512 * r .slot)) (sound .fits)) n h
+        acknowledge-fair (sound .keeps) (and-left (slotFits (r .head .slot)) (eqb (length store) (512 * r .head .slot)) (sound .fits)) n h
 
     -- An output of 1,044 bytes is always enough: the ack is written unless the state is at fault, and is never refused with 7.
-    pub acknowledge-enough : rulesOf r ≡ true → slotFits (r .slot) ≡ true → 1044 ≤ length output
+    pub acknowledge-enough : rulesOf r ≡ true → slotFits (r .head .slot) ≡ true → 1044 ≤ length output
         → acknowledgeOf r send recv output .says ≡ values (length (plainAckOf r send recv) ∷ [])
     acknowledge-enough e f room =
         acknowledge-by-room e f ∙ rw (le-ltb (length output) (length (plainAckOf r send recv)) (omega (arith, at-most-1044 r send recv)))
 
     pub acknowledge-never-7 : 1044 ≤ length output → acknowledgeOf r send recv output .says ≡ refusal 7 → ⊥
-    unfolding acknowledges acknowledgeSaid
+    unfolding acknowledgeOf acknowledgeSaid
     acknowledge-never-7 room =
         let p = plainAckOf r send recv in
         rung (λ (s : Said). s ≡ refusal 7 → ⊥) (not (rulesOf r)) (λ e h. let z : _≡_ {A = ℕ} 11 7 = cc in omega arith)
         (λ e.
-        rung (λ (s : Said). s ≡ refusal 7 → ⊥) (not (slotFits (r .slot))) (λ f h. let z : _≡_ {A = ℕ} 10 7 = cc in omega arith)
+        rung (λ (s : Said). s ≡ refusal 7 → ⊥) (not (slotFits (r .head .slot))) (λ f h. let z : _≡_ {A = ℕ} 10 7 = cc in omega arith)
         (λ f.
         rung (λ (s : Said). s ≡ refusal 7 → ⊥) (ltb (length output) (length p)) (λ g h. omega (arith, ltb-true (length output) (length p) g, at-most-1044 r send recv))
         (λ g h. let z : _≡_ {A = ℕ} 0 1 = cc in omega arith)))
 
     module _ (n : ℕ) (done : acknowledgeOf r send recv output .says ≡ values (n ∷ [])) where
       pub acknowledge-written : Written r send recv output n
-      unfolding acknowledges acknowledgeSaid
+      unfolding acknowledgeOf acknowledgeSaid
       acknowledge-written =
           let p = plainAckOf r send recv in
           let a = past 11 (not (rulesOf r)) _ (n ∷ []) done in
-          let b = past 10 (not (slotFits (r .slot))) _ (n ∷ []) (a .1) in
+          let b = past 10 (not (slotFits (r .head .slot))) _ (n ∷ []) (a .1) in
           let c = past 7 (ltb (length output) (length p)) (values (length p ∷ [])) (n ∷ []) (b .1) in
           record {
             keeps = not-false (rulesOf r) (a .0);
-            sized = not-false (slotFits (r .slot)) (b .0);
+            sized = not-false (slotFits (r .head .slot)) (b .0);
             room = ltb-false (length output) (length p) (c .0);
             long = let e = c .1 in cc;
             stands = rw done;

@@ -21,10 +21,11 @@ use Rattle.packet_write.specs.declared.Writing.{Writing}
 use Rattle.packet_write.specs.declared.Writing.the-variants as W
 use Rattle.packet_write.proofs.Joins.{length-packet, length-options}
 use Rattle.terms.specs.Answers.{Said, refusal, values, _unlessRefused_else_}
-use Rattle.receiver_state.specs.Rules.{rules, slotFits}
+use Rattle.receiver_state.specs.Rules.{rulesOf, slotFits}
+use Rattle.receiver_state.specs.declared.Receiver.{Receiver}
 use Rattle.receiver_ack.specs.Missing.{missingFrom}
 use Rattle.receiver_ack.specs.Fields.{atLeast255, ackNacks, ackThrough, fieldsFrom, nacksFrom}
-use Rattle.receiver_ack.specs.Acknowledge.{plainFields, plainAck, acknowledgeSaid, acknowledges}
+use Rattle.receiver_ack.specs.Acknowledge.{plainFields, plainAck, plainAckOf, acknowledgeSaid, acknowledgeOf}
 use Rattle.receiver_ack.specs.declared.AckFields.{AckFields}
 use Rattle.receiver_ack.proofs.Among.{missing-ascending, climbs}
 
@@ -184,19 +185,19 @@ module _ (next highest : ℕ) (marks : List ℕ) (send recv : StreamId) where
 
 -- ACKNOWLEDGE
 
-module _ (slot next highest : ℕ) (marks : List ℕ) (send recv : StreamId) (output : List ℕ) where
-  pub ack-broken : rules slot next highest marks ≡ false → record { says = refusal 11; output = output } ≡ acknowledges slot next highest marks send recv output
-  unfolding acknowledges acknowledgeSaid
+module _ (r : Receiver) (send recv : StreamId) (output : List ℕ) where
+  pub ack-broken : rulesOf r ≡ false → record { says = refusal 11; output = output } ≡ acknowledgeOf r send recv output
+  unfolding acknowledgeOf acknowledgeSaid
   ack-broken e = sym (simp e)
 
-  module _ (keeps : rules slot next highest marks ≡ true) where
-    pub ack-unfit : slotFits slot ≡ false → record { says = refusal 10; output = output } ≡ acknowledges slot next highest marks send recv output
-    unfolding acknowledges acknowledgeSaid
+  module _ (keeps : rulesOf r ≡ true) where
+    pub ack-unfit : slotFits (r .head .slot) ≡ false → record { says = refusal 10; output = output } ≡ acknowledgeOf r send recv output
+    unfolding acknowledgeOf acknowledgeSaid
     ack-unfit e = sym (simp (keeps, e))
 
-    pub ack-plain : slotFits slot ≡ true → (answer : Said) (after : List ℕ)
-        → answer ≡ (refusal 7 when ltb (length output) (length (plainAck next highest marks send recv)) else values (length (plainAck next highest marks send recv) ∷ []))
-        → after ≡ (plainAck next highest marks send recv atFrontOf output unlessRefused answer else output)
-        → record { says = answer; output = after } ≡ acknowledges slot next highest marks send recv output
-    unfolding acknowledges acknowledgeSaid
+    pub ack-plain : slotFits (r .head .slot) ≡ true → (answer : Said) (after : List ℕ)
+        → answer ≡ (refusal 7 when ltb (length output) (length (plainAckOf r send recv)) else values (length (plainAckOf r send recv) ∷ []))
+        → after ≡ (plainAckOf r send recv atFrontOf output unlessRefused answer else output)
+        → record { says = answer; output = after } ≡ acknowledgeOf r send recv output
+    unfolding acknowledgeOf acknowledgeSaid
     ack-plain fits answer after e f = sym (simp (keeps, fits) (rw (f, e)))

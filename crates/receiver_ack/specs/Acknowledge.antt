@@ -11,7 +11,7 @@ use Rattle.terms.specs.Refusals.{numberOf}
 use Rattle.packet_write.specs.Writing.{packetBytes}
 use Rattle.packet_write.specs.declared.Fields.{Fields}
 use Rattle.terms.specs.Answers.{Said, refusal, values, _unlessRefused_else_}
-use Rattle.receiver_state.specs.Rules.{rules, slotFits}
+use Rattle.receiver_state.specs.Rules.{rulesOf, slotFits}
 use Rattle.receiver_state.specs.declared.Receiver.{Receiver}
 use Rattle.receiver_ack.specs.Fields.{fieldsFrom, nacksFrom}
 use Rattle.receiver_ack.specs.declared.AckFields.{AckFields}
@@ -49,35 +49,29 @@ pub record Acknowledges : Type 0 where
   pub says : Said
   pub output : List ℕ
 
-module _ (slot next highest : ℕ) (marks : List ℕ) (send recv : StreamId) where
+module _ (r : Receiver) (send recv : StreamId) where
+  abbrev pub plainAckOf : List ℕ
+  plainAckOf = plainAck (r .head .next .0) (r .head .highest .0) (r .marks) send recv
+
   -- the answer, by document 01's numbers in its order
   unfoldable pub acknowledgeSaid : ℕ → Said
   acknowledgeSaid room =
       -- state breaks the rules
-      refusal 11 when not (rules slot next highest marks) else
+      refusal 11 when not (rulesOf r) else
       -- slot size wrong; no store is lent
-      refusal 10 when not (slotFits slot) else
+      refusal 10 when not (slotFits (r .head .slot)) else
       -- output shorter than needed, which is this ack's own length
-      refusal 7 when ltb room (length (plainAck next highest marks send recv)) else
-      values (length (plainAck next highest marks send recv) ∷ [])
+      refusal 7 when ltb room (length plainAckOf) else
+      values (length plainAckOf ∷ [])
 
-  -- where it is written, the packet stands at the output's front
-  unfoldable pub acknowledges : List ℕ → Acknowledges
-  acknowledges output =
+  -- the whole outcome: where it is written, the packet stands at the output's front. The receiver is left as it was
+  unfoldable pub acknowledgeOf : List ℕ → Acknowledges
+  acknowledgeOf output =
       let answer = acknowledgeSaid (length output) in
       record {
         says = answer;
-        output = plainAck next highest marks send recv atFrontOf output unlessRefused answer else output;
+        output = plainAckOf atFrontOf output unlessRefused answer else output;
       }
-
--- of a receiver, which it leaves as it was
-module _ (r : Receiver) (send recv : StreamId) where
-  abbrev pub plainAckOf : List ℕ
-  plainAckOf = plainAck (r .next .0) (r .highest .0) (r .marks) send recv
-
-  -- the whole outcome
-  abbrev pub acknowledgeOf : List ℕ → Acknowledges
-  acknowledgeOf output = acknowledges (r .slot) (r .next .0) (r .highest .0) (r .marks) send recv output
 
 -- a result of the code, as an outcome
 abbrev pub acknowledged : Acknowledged → List ℕ → Acknowledges

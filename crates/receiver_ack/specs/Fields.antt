@@ -54,10 +54,10 @@ nacksFrom next highest marks = ackNacks (missingFrom next highest marks)
 -- of a receiver
 module _ (r : Receiver) where
   abbrev pub ackFieldsOf : AckFields
-  ackFieldsOf = fieldsFrom (r .next .0) (r .highest .0) (r .marks)
+  ackFieldsOf = fieldsFrom (r .head .next .0) (r .head .highest .0) (r .marks)
 
   abbrev pub ackNacksOf : List ℕ
-  ackNacksOf = nacksFrom (r .next .0) (r .highest .0) (r .marks)
+  ackNacksOf = nacksFrom (r .head .next .0) (r .head .highest .0) (r .marks)
 
   abbrev pub ackThroughOf : ℕ
   ackThroughOf = ackFieldsOf .«ack_through» .0

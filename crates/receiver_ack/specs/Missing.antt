@@ -33,7 +33,7 @@ unfoldable pub missingFrom : ℕ → ℕ → List ℕ → List ℕ
 missingFrom next highest marks = those (notHeld marks) (next upTo highest)
 
 abbrev pub missingOf : Receiver → List ℕ
-missingOf r = missingFrom (r .next .0) (r .highest .0) (r .marks)
+missingOf r = missingFrom (r .head .next .0) (r .head .highest .0) (r .marks)
 
 -- What the theorems say of such a list.
 

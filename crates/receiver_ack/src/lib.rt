@@ -9,16 +9,18 @@ ghost use lib.ListN.{length};
 ghost use Rattle.terms.specs.Ladder.{_when_else_};
 ghost use Rattle.terms.specs.Lists.{_atFrontOf_};
 ghost use Rattle.terms.specs.Answers.{refusal, values, _unlessRefused_else_};
+ghost use Rattle.receiver_state.specs.Answers.{_over_};
 ghost use Rattle.receiver_ack.specs.Missing.{missingFrom};
 ghost use Rattle.receiver_ack.specs.Fields.{fieldsFrom};
-ghost use Rattle.receiver_ack.specs.Acknowledge.{said, acknowledged, plainAck, acknowledges, acknowledgeOf};
+ghost use Rattle.receiver_ack.specs.Acknowledge.{said, acknowledged, plainAck, acknowledgeOf};
 use packet_read::flags;
+use packet_write::Fields;
+use packet_write::Writing;
+use receiver_state::Head;
 use receiver_state::Receiver;
 use terms::Refusal;
 use terms::SeqNo;
 use terms::StreamId;
-use packet_write::Fields;
-use packet_write::Writing;
 
 // The most NACKs that a packet has room for.
 const MAX_NACKS: usize = 255;
@@ -42,14 +44,15 @@ pub enum Acknowledged {
 
 // Writes the missing numbers, ascending, to the front of a lent table, and answers how many they are. Ports the set `missing` of
 // `InboundContext`, which the marks make needless: one pass over the numbers from next to highest.
-fn list_missing(next: u32, highest: u32, marks: &[u16], missing: &mut [u32; 512]) -> usize
-    requires { ⌜ (length (now marks) ≡ 512) × (length (now missing) ≡ 512) × (highest ≤ next + 511) × (highest ≤ 4294967294) ⌝ }
-    ensures { λ r. ⌜ r ≡ length (missingFrom next highest (now (marks .entry))) ⌝ }
-    ensures { λ _. ⌜ now (missing .exit) ≡ missingFrom next highest (now (marks .entry)) atFrontOf now (missing .entry) ⌝ }
+fn list_missing(next: SeqNo, highest: SeqNo, marks: &[u16], missing: &mut [u32; 512]) -> usize
+    requires { ⌜ (length (now marks) ≡ 512) × (length (now missing) ≡ 512) × (highest .0 ≤ next .0 + 511) × (highest .0 ≤ 4294967294) ⌝ }
+    ensures { λ r. ⌜ r ≡ length (missingFrom (next .0) (highest .0) (now (marks .entry))) ⌝ }
+    ensures { λ _. ⌜ now (missing .exit) ≡ missingFrom (next .0) (highest .0) (now (marks .entry)) atFrontOf now (missing .entry) ⌝ }
 {
     let mut count = 0;
-    let mut number = next;
-    while number <= highest {
+    let mut number = next.0;
+    let last = highest.0;
+    while number <= last {
         let at = (number % 512) as usize;
         if marks[at] == 0 {
             missing[count] = number;
@@ -63,17 +66,16 @@ fn list_missing(next: u32, highest: u32, marks: &[u16], missing: &mut [u32; 512]
 // The ack fields of a receiver, for the plain ack and for data packets: ports what both of them take from `InboundContext`. All missing
 // numbers are written to the front of the lent table, and the NACKs are the first of them. The state keeps the rules, as
 // `receiver_state::rules_hold` tells.
-pub fn fields(next: u32, highest: u32, marks: &[u16], missing: &mut [u32; 512]) -> AckFields
-    requires { ⌜ (length (now marks) ≡ 512) × (length (now missing) ≡ 512) × (highest ≤ next + 511) × (highest ≤ 4294967294) ⌝ }
-    ensures { λ r. ⌜ r ≡ fieldsFrom next highest (now (marks .entry)) ⌝ }
-    ensures { λ _. ⌜ now (missing .exit) ≡ missingFrom next highest (now (marks .entry)) atFrontOf now (missing .entry) ⌝ }
+pub fn fields(next: SeqNo, highest: SeqNo, marks: &[u16], missing: &mut [u32; 512]) -> AckFields
+    requires { ⌜ (length (now marks) ≡ 512) × (length (now missing) ≡ 512) × (highest .0 ≤ next .0 + 511) × (highest .0 ≤ 4294967294) ⌝ }
+    ensures { λ r. ⌜ r ≡ fieldsFrom (next .0) (highest .0) (now (marks .entry)) ⌝ }
+    ensures { λ _. ⌜ now (missing .exit) ≡ missingFrom (next .0) (highest .0) (now (marks .entry)) atFrontOf now (missing .entry) ⌝ }
 {
     let count = list_missing(next, highest, marks, missing);
-    let top = SeqNo(highest);
     if count < MAX_NACKS {
         return AckFields {
             nacks: count,
-            ack_through: top,
+            ack_through: highest,
             flags: 0,
             delay: 0,
         };
@@ -81,7 +83,7 @@ pub fn fields(next: u32, highest: u32, marks: &[u16], missing: &mut [u32; 512]) 
     if count == MAX_NACKS {
         return AckFields {
             nacks: count,
-            ack_through: top,
+            ack_through: highest,
             flags: flags::DELAY,
             delay: CHOKING_REQUEST,
         };
@@ -97,17 +99,17 @@ pub fn fields(next: u32, highest: u32, marks: &[u16], missing: &mut [u32; 512]) 
 
 // The plain ack of a receiver that keeps the rules, written to the output's front where it has room.
 fn plain(
-    next: u32,
-    highest: u32,
+    next: SeqNo,
+    highest: SeqNo,
     marks: &[u16],
     send: StreamId,
     recv: StreamId,
     output: &mut [u8],
 ) -> Acknowledged
-    requires { ⌜ (length (now marks) ≡ 512) × (highest ≤ next + 511) × (highest ≤ 4294967294) ⌝ }
-    ensures { λ a. ⌜ said a ≡ (refusal 7 when ltb (length (now (output .entry))) (length (plainAck next highest (now (marks .entry)) send recv))
-        else values (length (plainAck next highest (now (marks .entry)) send recv) ∷ [])) ⌝ }
-    ensures { λ a. ⌜ now (output .exit) ≡ (plainAck next highest (now (marks .entry)) send recv atFrontOf now (output .entry) unlessRefused said a else now (output .entry)) ⌝ }
+    requires { ⌜ (length (now marks) ≡ 512) × (highest .0 ≤ next .0 + 511) × (highest .0 ≤ 4294967294) ⌝ }
+    ensures { λ a. ⌜ said a ≡ (refusal 7 when ltb (length (now (output .entry))) (length (plainAck (next .0) (highest .0) (now (marks .entry)) send recv))
+        else values (length (plainAck (next .0) (highest .0) (now (marks .entry)) send recv) ∷ [])) ⌝ }
+    ensures { λ a. ⌜ now (output .exit) ≡ (plainAck (next .0) (highest .0) (now (marks .entry)) send recv atFrontOf now (output .entry) unlessRefused said a else now (output .entry)) ⌝ }
 {
     let mut missing = [0u32; 512];
     let acks = fields(next, highest, marks, &mut missing);
@@ -130,26 +132,24 @@ fn plain(
     }
 }
 
-// acknowledge, over the state's numbers and its table lent.
+// acknowledge, over the state's head and its table lent.
 fn acknowledge_in(
-    slot: u32,
-    next: u32,
-    highest: u32,
+    h: Head,
     marks: &[u16],
     send: StreamId,
     recv: StreamId,
     output: &mut [u8],
 ) -> Acknowledged
     requires { ⌜ length (now marks) ≡ 512 ⌝ }
-    ensures { λ a. ⌜ acknowledged a (now (output .exit)) ≡ acknowledges slot next highest (now (marks .entry)) send recv (now (output .entry)) ⌝ }
+    ensures { λ a. ⌜ acknowledged a (now (output .exit)) ≡ acknowledgeOf (h over now (marks .entry)) send recv (now (output .entry)) ⌝ }
 {
-    if !receiver_state::rules_hold(slot, next, highest, marks) {
+    if !receiver_state::rules_hold(h, marks) {
         return Acknowledged::Refused(Refusal::StateBroken);
     }
-    if !receiver_state::slot_fits(slot) {
+    if !receiver_state::slot_fits(h.slot) {
         return Acknowledged::Refused(Refusal::SizeWrong);
     }
-    plain(next, highest, marks, send, recv, output)
+    plain(h.next, h.highest, marks, send, recv, output)
 }
 
 // Writes the plain ack of a receiver to the front of the output: both stream ids in wire order, sequence 0, resend delay 0, the ack
@@ -158,5 +158,5 @@ fn acknowledge_in(
 pub fn acknowledge(r: Receiver, send: StreamId, recv: StreamId, output: &mut [u8]) -> Acknowledged
     ensures { λ a. ⌜ acknowledged a (now (output .exit)) ≡ acknowledgeOf r send recv (now (output .entry)) ⌝ }
 {
-    acknowledge_in(r.slot, r.next.0, r.highest.0, &r.marks, send, recv, output)
+    acknowledge_in(r.head, &r.marks, send, recv, output)
 }

@@ -7,7 +7,11 @@ use native.Mathlib.Omega.{arith}
 use lib.ListN.{length, getD, set, length-set}
 use lib.Seq.{getD-set-same, getD-set-other}
 use Rattle.terms.proofs.Laws.{case}
+use Rattle.terms.specs.declared.SeqNo.{SeqNo}
 use Rattle.receiver_state.specs.Slots.{markOf, slotNumber}
+use Rattle.receiver_state.specs.declared.Receiver.{Receiver}
+use Rattle.receiver_calls.specs.Accept.{entering}
+use Rattle.receiver_calls.specs.Take.{passing}
 use Rattle.receiver_state.proofs.Facts.{Ruled}
 
 -- two numbers of one span have two slots
@@ -51,43 +55,57 @@ module _ (marks : List ℕ) (long : length marks ≡ 512) (number mark : ℕ) wh
       (λ (n : k ≡ number % 512 → ⊥). rw (getD-set-other marks (number % 512) k mark 0 n) (there k (omega arith) n))
       (ℕ-discrete k (number % 512))
 
-module _ (slot next highest : ℕ) (marks : List ℕ) (long : length marks ≡ 512) (r : Ruled slot next highest marks) where
-  pub accept-keeps : (number size : ℕ) → next ≤ number → number - next < 512 → number ≤ 4294967294 → size ≤ slot
-      → Ruled slot next (max highest number) (set marks (number % 512) (size + 1))
-  accept-keeps number size new near usable fits = record {
-    one = r .one;
-    low = omega (arith, r .low);
-    far = omega (arith, r .far);
-    top = λ n.
-        case
-        (λ (e : max highest number % 512 ≡ number % 512). rw (e, mark-same marks long number (size + 1)) (omega arith))
-        (λ (o : max highest number % 512 ≡ number % 512 → ⊥).
-        let m : max highest number ≡ highest =
-        case (λ (q : number ≤ highest). omega arith) (λ (q : number ≤ highest → ⊥). absurd (o (ap (λ (x : ℕ). x % 512) (omega arith)))) (decLe number highest) in
-        rw (mark-other marks long number (size + 1) (max highest number) o, m) (r .top (omega (arith, n))))
-        (ℕ-discrete (max highest number % 512) (number % 512));
-    last = omega (arith, r .last);
-    free = each-mark marks long number (size + 1) (λ (k m : ℕ). max highest number < slotNumber next k → m ≡ 0)
-        (λ a. absurd (omega arith))
-        (λ k h n a. r .free k (omega arith) (omega arith));
-    short = each-mark marks long number (size + 1) (λ (k m : ℕ). m - 1 ≤ slot)
-        (omega arith)
-        (λ k h n. r .short k (omega arith));
-  }
+module _ (r : Receiver) (long : length (r .marks) ≡ 512) (f : Ruled r) where
+  abbrev next : ℕ
+  next = r .head .next .0
 
-  pub take-keeps : 1 ≤ markOf marks next → next ≤ highest → Ruled slot (next + 1) highest (set marks (next % 512) 0)
+  abbrev highest : ℕ
+  highest = r .head .highest .0
+
+  abbrev marks : List ℕ
+  marks = r .marks
+
+  pub accept-keeps : (seq : SeqNo) (size : ℕ) → next ≤ seq .0 → seq .0 - next < 512 → seq .0 ≤ 4294967294 → size ≤ r .head .slot → Ruled (entering r seq size)
+  unfolding entering
+  accept-keeps seq size new near usable fits =
+      let number = seq .0 in
+      record {
+        one = f .one;
+        late = f .late;
+        low = omega (arith, f .low);
+        far = omega (arith, f .far);
+        top = λ n.
+            case
+            (λ (e : max highest number % 512 ≡ number % 512). rw (e, mark-same marks long number (size + 1)) (omega arith))
+            (λ (o : max highest number % 512 ≡ number % 512 → ⊥).
+            let m : max highest number ≡ highest =
+            case (λ (q : number ≤ highest). omega arith) (λ (q : number ≤ highest → ⊥). absurd (o (ap (λ (x : ℕ). x % 512) (omega arith)))) (decLe number highest) in
+            rw (mark-other marks long number (size + 1) (max highest number) o, m) (f .top (omega (arith, n))))
+            (ℕ-discrete (max highest number % 512) (number % 512));
+        last = omega (arith, f .last);
+        free = each-mark marks long number (size + 1) (λ (k m : ℕ). max highest number < slotNumber next k → m ≡ 0)
+            (λ a. absurd (omega arith))
+            (λ k h n a. f .free k (omega arith) (omega arith));
+        short = each-mark marks long number (size + 1) (λ (k m : ℕ). m - 1 ≤ r .head .slot)
+            (omega arith)
+            (λ k h n. f .short k (omega arith));
+      }
+
+  pub take-keeps : 1 ≤ markOf marks next → next ≤ highest → Ruled (passing r)
+  unfolding passing
   take-keeps held below = record {
     one = omega arith;
+    late = omega (arith, f .late);
     low = omega arith;
-    far = omega (arith, r .far);
+    far = omega (arith, f .far);
     top = λ n.
-        let o : highest % 512 ≡ next % 512 → ⊥ = apart next highest next below (omega (arith, r .far)) (omega arith) (omega arith) (λ e. n (omega arith)) in
-        rw (mark-other marks long next 0 highest o) (r .top (λ e. omega arith));
-    last = r .last;
+        let o : highest % 512 ≡ next % 512 → ⊥ = apart next highest next below (omega (arith, f .far)) (omega arith) (omega arith) (λ e. n (omega arith)) in
+        rw (mark-other marks long next 0 highest o) (f .top (λ e. omega arith));
+    last = f .last;
     free = each-mark marks long next 0 (λ (k m : ℕ). highest < slotNumber (next + 1) k → m ≡ 0)
         (λ a. refl)
-        (λ k h n a. r .free k (omega arith) (subst (λ (x : ℕ). highest < x) (number-later next k h n) a));
-    short = each-mark marks long next 0 (λ (k m : ℕ). m - 1 ≤ slot)
+        (λ k h n a. f .free k (omega arith) (subst (λ (x : ℕ). highest < x) (number-later next k h n) a));
+    short = each-mark marks long next 0 (λ (k m : ℕ). m - 1 ≤ r .head .slot)
         (omega arith)
-        (λ k h n. r .short k (omega arith));
+        (λ k h n. f .short k (omega arith));
   }

@@ -15,21 +15,21 @@ use Rattle.receiver_calls.specs.Meaning.{taken, held, missing, unseen, s
 use Rattle.receiver_state.specs.declared.Receiver.{Receiver}
 
 module _ (r : Receiver) (store : List ℕ) (n : ℕ) where
-  pub is-taken : n < r .next .0 → standing r store n ≡ taken
+  pub is-taken : n < r .head .next .0 → standing r store n ≡ taken
   unfolding standing
   is-taken a = simp (lt-ltb _ _ a)
 
-  module _ (a : r .next .0 ≤ n) where
-    pub is-unseen : r .highest .0 < n → standing r store n ≡ unseen
+  module _ (a : r .head .next .0 ≤ n) where
+    pub is-unseen : r .head .highest .0 < n → standing r store n ≡ unseen
     unfolding standing
     is-unseen b = simp (le-ltb _ _ a, lt-ltb _ _ b)
 
-    module _ (b : n ≤ r .highest .0) where
+    module _ (b : n ≤ r .head .highest .0) where
       pub is-missing : markOf (r .marks) n ≡ 0 → standing r store n ≡ missing
       unfolding standing
       is-missing z = simp (le-ltb _ _ a, le-ltb _ _ b, eq-eqb _ _ z)
 
-      pub is-held : (markOf (r .marks) n ≡ 0 → ⊥) → standing r store n ≡ held (heldBytes (r .marks) (r .slot) store n)
+      pub is-held : (markOf (r .marks) n ≡ 0 → ⊥) → standing r store n ≡ held (heldBytes (r .marks) (r .head .slot) store n)
       unfolding standing
       is-held z = simp (le-ltb _ _ a, le-ltb _ _ b, ne-eqb _ _ z)
 

@@ -7,59 +7,56 @@ use lib.ListN.{length, set}
 use Rattle.terms.specs.Ladder.{_when_else_}
 use Rattle.terms.specs.Lists.{_atFrontOf_}
 use Rattle.terms.specs.Answers.{Said, refusal, values, _unlessRefused_else_, saidOf}
-use Rattle.receiver_state.specs.Answers.{Outcome}
+use Rattle.receiver_state.specs.Answers.{_over_, Outcome}
 use Rattle.receiver_state.specs.Slots.{isFree, lengthOf, markOf, heldBytes}
-use Rattle.receiver_state.specs.Rules.{rules, sizesFit}
+use Rattle.receiver_state.specs.Rules.{rulesOf, sizesFit}
+use Rattle.receiver_state.specs.declared.Head.{Head}
 use Rattle.receiver_state.specs.declared.Receiver.{Receiver}
 use Rattle.receiver_calls.specs.declared.Taken.{Taken}
 use Rattle.receiver_calls.specs.declared.TakenIn.{TakenIn}
 
+-- the mark of the next number to take
+abbrev pub nextMark : Receiver → ℕ
+nextMark r = markOf (r .marks) (r .head .next .0)
+
 -- the answer, by document 01's numbers in its order
-unfoldable pub takeSaid : ℕ → ℕ → ℕ → List ℕ → ℕ → ℕ → Said
-takeSaid slot next highest marks storeLength room =
+unfoldable pub takeSaid : Receiver → ℕ → ℕ → Said
+takeSaid r storeLength room =
     -- state breaks the rules
-    refusal 11 when not (rules slot next highest marks) else
+    refusal 11 when not (rulesOf r) else
     -- slot size or store length wrong
-    refusal 10 when not (sizesFit slot storeLength) else
+    refusal 10 when not (sizesFit (r .head .slot) storeLength) else
     -- nothing ready: the next number is not held
-    refusal 17 when isFree (markOf marks next) else
+    refusal 17 when isFree (nextMark r) else
     -- output shorter than needed
-    refusal 7 when ltb room (lengthOf (markOf marks next)) else
-    values (lengthOf (markOf marks next) ∷ [])
+    refusal 7 when ltb room (lengthOf (nextMark r)) else
+    values (lengthOf (nextMark r) ∷ [])
 
--- what it says, and what it leaves of next, the marks and the output
-pub record Takes : Type 0 where
-  pub says : Said
-  pub next : ℕ
-  pub marks : List ℕ
-  pub output : List ℕ
+-- next goes on by one,
+abbrev pub releasing : Head → Head
+releasing h = record { slot = h .slot; start = h .start; next = record { 0 = h .next .0 + 1 }; highest = h .highest }
 
--- where it is done, next goes on by one, the slot is freed, and what it held stands at the output's front
-unfoldable pub takes : ℕ → ℕ → ℕ → List ℕ → List ℕ → List ℕ → Takes
-takes slot next highest marks store output =
-    let answer = takeSaid slot next highest marks (length store) (length output) in
+-- and its slot is freed
+unfoldable pub passing : Receiver → Receiver
+passing r = releasing (r .head) over set (r .marks) (r .head .next .0 % 512) 0
+
+-- the bytes of the next number
+abbrev pub nextBytes : Receiver → List ℕ → List ℕ
+nextBytes r store = heldBytes (r .marks) (r .head .slot) store (r .head .next .0)
+
+-- the whole outcome; where it is done, what the slot held stands at the output's front
+unfoldable pub takeOf : Receiver → List ℕ → List ℕ → Outcome
+takeOf r store output =
+    let answer = takeSaid r (length store) (length output) in
     record {
       says = answer;
-      next = next + 1 unlessRefused answer else next;
-      marks = set marks (next % 512) 0 unlessRefused answer else marks;
-      output = heldBytes marks slot store next atFrontOf output unlessRefused answer else output;
+      state = passing r unlessRefused answer else r;
+      lent = nextBytes r store atFrontOf output unlessRefused answer else output;
     }
 
--- a state, with what take leaves of it
-abbrev pub takeLeaves : Receiver → Takes → Outcome
-takeLeaves r left = record {
-  says = left .says;
-  state = record { slot = r .slot; next = record { 0 = left .next }; highest = r .highest; marks = left .marks };
-  lent = left .output;
-}
-
--- the whole outcome
-abbrev pub takeOf : Receiver → List ℕ → List ℕ → Outcome
-takeOf r store output = takeLeaves r (takes (r .slot) (r .next .0) (r .highest .0) (r .marks) store output)
-
--- results of the code, as an outcome
+-- results of the code, as an outcome: by value, and over a table that is lent
 abbrev pub took : Taken → List ℕ → Outcome
 took t output = record { says = saidOf (t .answer); state = t .state; lent = output }
 
-abbrev pub tookIn : TakenIn → List ℕ → List ℕ → Takes
-tookIn t marks output = record { says = saidOf (t .answer); next = t .next; marks = marks; output = output }
+abbrev pub tookOver : TakenIn → List ℕ → List ℕ → Outcome
+tookOver t marks output = record { says = saidOf (t .answer); state = t .head over marks; lent = output }

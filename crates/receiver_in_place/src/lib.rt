@@ -24,12 +24,10 @@ pub fn accept(r: &mut Receiver, number: SeqNo, payload: &[u8], store: &mut [u8])
 pub fn accept_lent(r: &mut Receiver, number: SeqNo, payload: &[u8], store: &mut [u8]) -> Answer
     ensures { λ a. ⌜ acceptedBehind a (now (r .exit)) (now (store .exit)) ≡ acceptOf (now (r .entry)) number (now (payload .entry)) (now (store .entry)) ⌝ }
 {
-    let slot = r.slot;
-    let next = r.next.0;
-    let highest = r.highest.0;
-    let done = receiver_calls::accept_in(slot, next, highest, &mut r.marks, number.0, payload, store);
-    r.highest.0 = done.highest;
-    done.answer
+    let h = r.head;
+    let entered = receiver_calls::accept_in(h, &mut r.marks, number, payload, store);
+    r.head = entered.head;
+    entered.answer
 }
 
 // Takes the next payload, if it is held, over `receiver_calls::take`.
@@ -45,10 +43,8 @@ pub fn take(r: &mut Receiver, store: &[u8], output: &mut [u8]) -> Given
 pub fn take_lent(r: &mut Receiver, store: &[u8], output: &mut [u8]) -> Given
     ensures { λ g. ⌜ tookBehind g (now (r .exit)) (now (output .exit)) ≡ takeOf (now (r .entry)) (now (store .entry)) (now (output .entry)) ⌝ }
 {
-    let slot = r.slot;
-    let next = r.next.0;
-    let highest = r.highest.0;
-    let done = receiver_calls::take_in(slot, next, highest, &mut r.marks, store, output);
-    r.next.0 = done.next;
-    done.answer
+    let h = r.head;
+    let passed = receiver_calls::take_in(h, &mut r.marks, store, output);
+    r.head = passed.head;
+    passed.answer
 }

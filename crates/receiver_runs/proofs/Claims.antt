@@ -23,7 +23,7 @@ use Rattle.receiver_ack.specs.Acknowledge.{plainAckOf}
 use Rattle.receiver_ack.proofs.Carried.{absence-claims}
 use Rattle.receiver_ack.proofs.PlainAck.{ReadsAs, acknowledge-reads, acknowledge-written, acknowledge-enough, at-most-1044}
 use Rattle.receiver_runs.specs.Runs.{Run, endOf}
-use Rattle.receiver_runs.specs.Delivered.{Taken, Held, throughIn, nacksIn, ackOf, packetOf, Honest, NothingHidden}
+use Rattle.receiver_runs.specs.Delivered.{Taken, Held, throughIn, nacksIn, ackOf, ackPacket, Honest, NothingHidden}
 use Rattle.receiver_runs.proofs.Pieces.{by-first}
 use Rattle.receiver_runs.proofs.Places.{nextOf, highestIn, first, known, taken-below, accepted-held}
 
@@ -78,7 +78,7 @@ module _ (run : Run) where
   pub nothing-hidden : NothingHidden run
   nothing-hidden = record {
     honest = λ send recv output size wide done.
-        honest send recv (packetOf (ackOf run send recv output) size)
+        honest send recv (ackPacket (ackOf run send recv output) size)
         (rw (sub-zero size)
         (acknowledge-reads (endOf run .state) send recv output size done
         (ltb-true (send .0) (2 ^ 32) (and-left (ltb (send .0) (2 ^ 32)) (ltb (recv .0) (2 ^ 32)) wide))

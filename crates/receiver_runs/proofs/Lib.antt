@@ -2,6 +2,7 @@
 -- (Places) and of an acknowledgement (Claims), demand 3 as one theorem (Delivery), and one call more
 -- (More).
 pub mod Pieces
+pub mod Starts
 pub mod Known
 pub mod Steps
 pub mod Places

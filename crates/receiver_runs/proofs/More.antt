@@ -13,7 +13,7 @@ use Rattle.receiver_ack.specs.Acknowledge.{plainAckOf}
 use Rattle.receiver_ack.proofs.PlainAck.{acknowledge-by-room}
 use Rattle.receiver_runs.specs.Runs.{Call, accept, take, acknowledge, Event, Kept, stepOf, keptAfter, eventsOf, inWidth, allInWidth, Run, endOf}
 use Rattle.receiver_runs.specs.History.{acceptedBy, acceptedIn}
-use Rattle.receiver_runs.specs.Delivered.{ackOf, packetOf, Honest}
+use Rattle.receiver_runs.specs.Delivered.{ackOf, ackPacket, Honest}
 use Rattle.receiver_runs.proofs.Places.{known}
 use Rattle.receiver_runs.proofs.Claims.{nothing-hidden}
 
@@ -44,7 +44,7 @@ accepted-more (e ∷ h) rest = rw (accepted-more h rest, append-assoc (acceptedB
 
 -- the packet of each acknowledge that is done, as long as it answers, is honest
 pub ack-honest : (run : Run) (send recv : StreamId) (output given : List ℕ) → inWidth (acknowledge send recv output) ≡ true → ackOf run send recv output .answered ≡ values given
-    → Honest run (packetOf (ackOf run send recv output) (getD given 0 0))
+    → Honest run (ackPacket (ackOf run send recv output) (getD given 0 0))
 ack-honest run send recv output given wide done =
     let r = endOf run .state in
     let size = length (plainAckOf r send recv) in

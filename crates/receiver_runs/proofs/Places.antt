@@ -20,10 +20,10 @@ use Rattle.receiver_runs.proofs.Known.{Known, told-held, told-open}
 use Rattle.receiver_runs.proofs.Steps.{At, start, steps}
 
 abbrev pub nextOf : Run → ℕ
-nextOf run = endOf run .state .next .0
+nextOf run = endOf run .state .head .next .0
 
 abbrev pub highestIn : Run → ℕ
-highestIn run = endOf run .state .highest .0
+highestIn run = endOf run .state .head .highest .0
 
 abbrev pub first : Run → ℕ → Option (List ℕ)
 first run n = firstOf n (acceptedIn (historyOf run))

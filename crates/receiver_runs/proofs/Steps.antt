@@ -22,14 +22,15 @@ use Rattle.receiver_calls.proofs.Laws.{by-said, start-standing, start-sound, st
 use Rattle.receiver_ack.proofs.PlainAck.{acknowledge-fair}
 use Rattle.receiver_runs.specs.Runs.{Call, accept, take, acknowledge, Event, Kept, stepOf, keptAfter, eventsOf, inWidth, allInWidth, begun}
 use Rattle.receiver_runs.specs.History.{Piece, acceptedBy, acceptedIn, takenBy, takenIn, refusedBy, refusedIn}
-use Rattle.receiver_runs.specs.Delivered.{isFair}
+use Rattle.receiver_runs.specs.Delivered.{blamesNeither}
 use Rattle.receiver_runs.proofs.Pieces.{some-not-none}
+use Rattle.receiver_runs.proofs.Starts.{start-start, accept-start, take-start}
 use Rattle.receiver_runs.proofs.Known.{Known, entered, passed}
 
 -- what is known, of a history
 pub record At (s slot : ℕ) (kept : Kept) (history : List Event) : Type 0 where
   pub known : Known s slot (kept .state) (kept .store) (acceptedIn history) (takenIn history)
-  pub fair : all isFair (refusedIn history) ≡ true
+  pub fair : all blamesNeither (refusedIn history) ≡ true
 
 -- a history with one event more
 module _ (e : Event) where
@@ -47,7 +48,7 @@ module _ (e : Event) where
   refused-more [] = append-nil (refusedBy (e .answered))
   refused-more (x ∷ h) = rw (refused-more h) (sym (append-assoc (refusedBy (x .answered)) (refusedIn h) (refusedBy (e .answered))))
 
-fair-one : (says : Said) → ((n : ℕ) → says ≡ refusal n → (n ≡ 11 → ⊥) × (n ≡ 10 → ⊥)) → all isFair (refusedBy says) ≡ true
+fair-one : (says : Said) → ((n : ℕ) → says ≡ refusal n → (n ≡ 11 → ⊥) × (n ≡ 10 → ⊥)) → all blamesNeither (refusedBy says) ≡ true
 fair-one (refusal n) f = let g = f n refl in simp (ne-eqb n 11 (g .0), ne-eqb n 10 (g .1))
 fair-one (values given) f = refl
 
@@ -55,7 +56,7 @@ module _ (s slot : ℕ) (h : List Event) (e : Event) where
   -- with what the event brought and took
   grown : (after : Kept) (brought took : List Piece) → acceptedBy (e .asked) (e .answered) ≡ brought → takenBy (e .asked) (e .next) (e .answered) (e .output) ≡ took
       → Known s slot (after .state) (after .store) (acceptedIn h ++ brought) (takenIn h ++ took)
-      → all isFair (refusedIn h) ≡ true → ((n : ℕ) → e .answered ≡ refusal n → (n ≡ 11 → ⊥) × (n ≡ 10 → ⊥))
+      → all blamesNeither (refusedIn h) ≡ true → ((n : ℕ) → e .answered ≡ refusal n → (n ≡ 11 → ⊥) × (n ≡ 10 → ⊥))
       → At s slot after (h ++ (e ∷ []))
   grown after brought took a t k fair f =
       record {
@@ -74,14 +75,14 @@ module _ (s slot : ℕ) (h : List Event) (e : Event) where
   -- with nothing brought
   grown-take : (after : Kept) (piece : Piece) → acceptedBy (e .asked) (e .answered) ≡ [] → takenBy (e .asked) (e .next) (e .answered) (e .output) ≡ piece ∷ []
       → Known s slot (after .state) (after .store) (acceptedIn h) (takenIn h ++ (piece ∷ []))
-      → all isFair (refusedIn h) ≡ true → ((n : ℕ) → e .answered ≡ refusal n → (n ≡ 11 → ⊥) × (n ≡ 10 → ⊥))
+      → all blamesNeither (refusedIn h) ≡ true → ((n : ℕ) → e .answered ≡ refusal n → (n ≡ 11 → ⊥) × (n ≡ 10 → ⊥))
       → At s slot after (h ++ (e ∷ []))
   grown-take after piece a t k = grown after [] (piece ∷ []) a t (rw (append-nil (acceptedIn h)) k)
 
   -- with nothing taken
   grown-accept : (after : Kept) (piece : Piece) → acceptedBy (e .asked) (e .answered) ≡ piece ∷ [] → takenBy (e .asked) (e .next) (e .answered) (e .output) ≡ []
       → Known s slot (after .state) (after .store) (acceptedIn h ++ (piece ∷ [])) (takenIn h)
-      → all isFair (refusedIn h) ≡ true → ((n : ℕ) → e .answered ≡ refusal n → (n ≡ 11 → ⊥) × (n ≡ 10 → ⊥))
+      → all blamesNeither (refusedIn h) ≡ true → ((n : ℕ) → e .answered ≡ refusal n → (n ≡ 11 → ⊥) × (n ≡ 10 → ⊥))
       → At s slot after (h ++ (e ∷ []))
   grown-accept after piece a t k = grown after (piece ∷ []) [] a t (rw (append-nil (takenIn h)) k)
 
@@ -119,7 +120,7 @@ step s slot kept h (accept number payload) at wide =
     let c = accept-changes r number payload store given q sound in
     grown-accept s slot h e (stepOf kept (accept number payload) .kept) (record { number = number .0; bytes = payload }) (brought number payload _ given q) refl
     (entered s slot r (acceptOf r number payload store .state) store (acceptOf r number payload store .lent) (acceptedIn h) (takenIn h) (at .known)
-    (accept-sound r number payload store sound (omega arith)) (accept-slot r number payload store)
+    (accept-sound r number payload store sound (omega arith)) (accept-slot r number payload store) (accept-start r number payload store)
     (number .0) payload (c .was) (c .now-held) (c .others) (ap (λ (x : SeqNo). x .0) (c .next-is)) (c .highest-is))
     (at .fair) (accept-fair r number payload store sound))
 step s slot kept h (take output) at wide =
@@ -130,13 +131,13 @@ step s slot kept h (take output) at wide =
     by-said (takeOf r store output .says)
     (λ n q.
     let k = take-nothing r store output n q in
-    same s slot h e kept (stepOf kept (take output) .kept) at (k .0) refl refl (gave-not output (r .next .0) _ n _ q) (take-fair r store output sound))
+    same s slot h e kept (stepOf kept (take output) .kept) at (k .0) refl refl (gave-not output (r .head .next .0) _ n _ q) (take-fair r store output sound))
     (λ given q.
     let c = take-changes r store output given q sound in
-    grown-take s slot h e (stepOf kept (take output) .kept) (record { number = r .next .0; bytes = c .bytes }) refl
-    (gave output (r .next .0) _ given (c .bytes) output _ q (c .counted) (c .output-is))
+    grown-take s slot h e (stepOf kept (take output) .kept) (record { number = r .head .next .0; bytes = c .bytes }) refl
+    (gave output (r .head .next .0) _ given (c .bytes) output _ q (c .counted) (c .output-is))
     (passed s slot r (takeOf r store output .state) store store (acceptedIn h) (takenIn h) (at .known)
-    (take-sound r store output sound) (take-slot r store output)
+    (take-sound r store output sound) (take-slot r store output) (take-start r store output)
     (c .bytes) (c .was) (c .others) (c .next-is) (ap (λ (x : SeqNo). x .0) (c .highest-is)))
     (at .fair) (take-fair r store output sound))
 step s slot kept h (acknowledge send recv output) at wide =
@@ -172,6 +173,7 @@ start s slot store done width =
       known = record {
         sound = start-sound s slot store done (omega arith);
         slot-is = start-slot s slot store done;
+        start-is = start-start s slot store done;
         next-is = next ∙ sym (add-zero (s .0 + 1));
         highest-is = highest;
         stands = λ n.

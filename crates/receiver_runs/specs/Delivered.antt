@@ -63,7 +63,7 @@ pub record InOrder (run : Run) : Type 0 where
   pub as-numbered : (k : ℕ) (piece : Piece) → getElem? (takenIn (historyOf run)) k ≡ some piece → piece .number ≡ run .s .0 + 1 + k
   pub bytes-first : (k : ℕ) (piece : Piece) → getElem? (takenIn (historyOf run)) k ≡ some piece → AcceptedWith run (piece .number) (piece .bytes)
   -- and the next to take is the one behind the last taken
-  pub next-is : endOf run .state .next .0 ≡ run .s .0 + 1 + length (takenIn (historyOf run))
+  pub next-is : endOf run .state .head .next .0 ≡ run .s .0 + 1 + length (takenIn (historyOf run))
 
 -- what our reader finds in a packet: its ack-through, and its NACKs as numbers
 abbrev pub throughIn : List ℕ → ℕ
@@ -76,8 +76,8 @@ nacksIn packet = nackNumbersOf packet
 abbrev pub ackOf : Run → StreamId → StreamId → List ℕ → Event
 ackOf run send recv output = stepOf (endOf run) (acknowledge send recv output) .event
 
-abbrev pub packetOf : Event → ℕ → List ℕ
-packetOf e size = part (e .output) 0 size
+abbrev pub ackPacket : Event → ℕ → List ℕ
+ackPacket e size = part (e .output) 0 size
 
 -- 3. Nothing is claimed that did not arrive: of every acknowledgement that is not refused, our reader reads the packet without refusal, and
 -- finds that a number up to ack-through is absent from the NACKs exactly if it is at most s, taken or held. Every acknowledgement of a
@@ -89,17 +89,17 @@ pub record Honest (run : Run) (packet : List ℕ) : Type 0 where
 -- The packet never exceeds 1,044 bytes, and an output that long always holds it.
 pub record NothingHidden (run : Run) : Type 0 where
   pub honest : (send recv : StreamId) (output : List ℕ) (size : ℕ) → inWidth (acknowledge send recv output) ≡ true
-      → ackOf run send recv output .answered ≡ values (size ∷ []) → Honest run (packetOf (ackOf run send recv output) size)
+      → ackOf run send recv output .answered ≡ values (size ∷ []) → Honest run (ackPacket (ackOf run send recv output) size)
   pub at-most-1044 : (send recv : StreamId) (output : List ℕ) (size : ℕ) → ackOf run send recv output .answered ≡ values (size ∷ []) → size ≤ 1044
   pub always-fits : (send recv : StreamId) (output : List ℕ) → 1044 ≤ length output → (size : ℕ) × (ackOf run send recv output .answered ≡ values (size ∷ []))
 
 -- a refusal that blames neither the state's rules nor the sizes
-abbrev pub isFair : ℕ → Bool
-isFair why = not (eqb why 11) && not (eqb why 10)
+abbrev pub blamesNeither : ℕ → Bool
+blamesNeither why = not (eqb why 11) && not (eqb why 10)
 
 -- 4. No call of a run is refused 11, and none 10; and the store keeps its length.
 pub record NeverAtFault (run : Run) : Type 0 where
-  pub never-11-or-10 : all isFair (refusedIn (historyOf run)) ≡ true
+  pub never-11-or-10 : all blamesNeither (refusedIn (historyOf run)) ≡ true
   pub store-length : length (endOf run .store) ≡ length (run .store)
 
 -- Demand 3: all of these. It is proved of every run (proofs/Delivery).

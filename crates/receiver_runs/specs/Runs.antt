@@ -47,19 +47,19 @@ abbrev pub stepOf : Kept → Call → Step
 stepOf before (accept number payload) =
     let outcome = acceptOf (before .state) number payload (before .store) in
     record {
-      event = record { asked = accept number payload; next = before .state .next .0; answered = outcome .says; output = [] };
+      event = record { asked = accept number payload; next = before .state .head .next .0; answered = outcome .says; output = [] };
       kept = record { state = outcome .state; store = outcome .lent };
     }
 stepOf before (take output) =
     let outcome = takeOf (before .state) (before .store) output in
     record {
-      event = record { asked = take output; next = before .state .next .0; answered = outcome .says; output = outcome .lent };
+      event = record { asked = take output; next = before .state .head .next .0; answered = outcome .says; output = outcome .lent };
       kept = record { state = outcome .state; store = before .store };
     }
 stepOf before (acknowledge send recv output) =
     let outcome = acknowledgeOf (before .state) send recv output in
     record {
-      event = record { asked = acknowledge send recv output; next = before .state .next .0; answered = outcome .says; output = outcome .output };
+      event = record { asked = acknowledge send recv output; next = before .state .head .next .0; answered = outcome .says; output = outcome .output };
       kept = before;
     }
 

@@ -13,31 +13,31 @@ use Rattle.receiver_state.specs.declared.Receiver.{Receiver}
 use Rattle.receiver_state.specs.declared.Started.{Started}
 
 -- the answer, by document 01's numbers in its order
-unfoldable pub startSaid : ℕ → ℕ → ℕ → Said
+unfoldable pub startSaid : SeqNo → ℕ → ℕ → Said
 startSaid s slot storeLength =
     -- slot size or store length wrong
     refusal 10 when not (sizesFit slot storeLength) else
     -- the s to start after is 4,294,967,295
-    refusal 12 when eqb s 4294967295 else
+    refusal 12 when eqb (s .0) 4294967295 else
     values []
 
--- a state with nothing held
-abbrev pub nothingHeld : ℕ → ℕ → ℕ → Receiver
-nothingHeld slot next highest = record { slot = slot; next = record { 0 = next }; highest = record { 0 = highest }; marks = replicate 512 0 }
+-- a state with nothing held: highest is the number that the start came after
+abbrev pub nothingHeld : ℕ → SeqNo → SeqNo → Receiver
+nothingHeld slot s next = record { head = record { slot = slot; start = s; next = next; highest = s }; marks = replicate 512 0 }
 
 -- a start after s has next to take s + 1 and highest s
-abbrev pub fresh : ℕ → ℕ → Receiver
-fresh s slot = nothingHeld slot (s + 1) s
+abbrev pub fresh : SeqNo → ℕ → Receiver
+fresh s slot = nothingHeld slot s (record { 0 = s .0 + 1 })
 
 -- what stands beside a refused start: a state whose next is 0, so that every later call refuses it with 11
 abbrev pub unusable : Receiver
-unusable = nothingHeld 0 0 0
+unusable = nothingHeld 0 (record { 0 = 0 }) (record { 0 = 0 })
 
 -- the whole outcome; a start is lent nothing to change
 abbrev pub startOf : SeqNo → ℕ → ℕ → Outcome
 startOf s slot storeLength = record {
-  says = startSaid (s .0) slot storeLength;
-  state = fresh (s .0) slot unlessRefused startSaid (s .0) slot storeLength else unusable;
+  says = startSaid s slot storeLength;
+  state = fresh s slot unlessRefused startSaid s slot storeLength else unusable;
   lent = [];
 }
 

@@ -7,22 +7,31 @@ ghost use lib.Dec.{eqb};
 ghost use lib.ListN.{length};
 ghost use Rattle.terms.specs.Lists.{all, each};
 ghost use Rattle.receiver_state.specs.Slots.{isHeld, markOf, atMost, bandedOf};
-ghost use Rattle.receiver_state.specs.Rules.{freeOutside, lengthAtMost, rules, slotFits, sizesFit};
+ghost use Rattle.receiver_state.specs.Answers.{_over_};
+ghost use Rattle.receiver_state.specs.Rules.{freeOutside, lengthAtMost, rulesOf, slotFits, sizesFit};
 ghost use Rattle.receiver_state.specs.Start.{nothingHeld, startOf, started};
 use terms::Answer;
 use terms::Refusal;
 use terms::SeqNo;
 
-// The state. A mark says all of its slot: 0 where it is free, and a held payload's length and one, so that a length on a free slot
-// cannot be written down.
+// What a receiver keeps beside its table. Where the table is lent, these are handed over by value.
 #[repr(C)]
-pub struct Receiver {
+pub struct Head {
     // the slot size S
     pub slot: u32,
+    // the number that the start came after
+    pub start: SeqNo,
     // the next number to take
     pub next: SeqNo,
     // the highest number accepted, or the one that the start came after
     pub highest: SeqNo,
+}
+
+// The state. A mark says all of its slot: 0 where it is free, and a held payload's length and one, so that a length on a free slot
+// cannot be written down.
+#[repr(C)]
+pub struct Receiver {
+    pub head: Head,
     pub marks: [u16; 512],
 }
 
@@ -69,12 +78,12 @@ fn top_mark(slot: u32) -> u16
 
 // Whether nothing is held outside next to highest and no length is above slot. The slots of the numbers from next to highest are
 // one run of the table, or one at its end and one at its front.
-fn slots_hold(slot: u32, next: u32, highest: u32, marks: &[u16]) -> bool
-    requires { ⌜ (length (now marks) ≡ 512) × (next ≤ highest + 1) × (highest ≤ next + 511) × (highest ≤ 4294967294) ⌝ }
-    ensures { λ r. ⌜ r ≡ (each (freeOutside next highest) 0 (now (marks .entry)) && all (lengthAtMost slot) (now (marks .entry))) ⌝ }
+fn slots_hold(slot: u32, next: SeqNo, highest: SeqNo, marks: &[u16]) -> bool
+    requires { ⌜ (length (now marks) ≡ 512) × (next .0 ≤ highest .0 + 1) × (highest .0 ≤ next .0 + 511) × (highest .0 ≤ 4294967294) ⌝ }
+    ensures { λ r. ⌜ r ≡ (each (freeOutside (next .0) (highest .0)) 0 (now (marks .entry)) && all (lengthAtMost slot) (now (marks .entry))) ⌝ }
 {
-    let first = (next % 512) as usize;
-    let end = first + (highest + 1 - next) as usize;
+    let first = (next.0 % 512) as usize;
+    let end = first + (highest.0 + 1 - next.0) as usize;
     let top = top_mark(slot);
     if end <= 512 {
         return banded(marks, first, end, top, 0);
@@ -83,24 +92,29 @@ fn slots_hold(slot: u32, next: u32, highest: u32, marks: &[u16]) -> bool
 }
 
 // Whether highest is held, unless it is next - 1.
-fn highest_held(next: u32, highest: u32, marks: &[u16]) -> bool
-    requires { ⌜ (length (now marks) ≡ 512) × (1 ≤ next) ⌝ }
-    ensures { λ r. ⌜ r ≡ (isHeld (markOf (now (marks .entry)) highest) || eqb highest (next - 1)) ⌝ }
+fn highest_held(next: SeqNo, highest: SeqNo, marks: &[u16]) -> bool
+    requires { ⌜ (length (now marks) ≡ 512) × (1 ≤ next .0) ⌝ }
+    ensures { λ r. ⌜ r ≡ (isHeld (markOf (now (marks .entry)) (highest .0)) || eqb (highest .0) (next .0 - 1)) ⌝ }
 {
-    if highest == next - 1 {
+    if highest.0 == next.0 - 1 {
         return true;
     }
-    let at = (highest % 512) as usize;
+    let at = (highest.0 % 512) as usize;
     marks[at] != 0
 }
 
 // Whether a state keeps document 01's rules: what stands behind refusal 11, here and in the calls above that are given a receiver.
 // It runs at every call, so each mark is touched once.
-pub fn rules_hold(slot: u32, next: u32, highest: u32, marks: &[u16]) -> bool
+pub fn rules_hold(h: Head, marks: &[u16]) -> bool
     requires { ⌜ length (now marks) ≡ 512 ⌝ }
-    ensures { λ r. ⌜ r ≡ rules slot next highest (now (marks .entry)) ⌝ }
+    ensures { λ r. ⌜ r ≡ rulesOf (h over now (marks .entry)) ⌝ }
 {
+    let next = h.next.0;
+    let highest = h.highest.0;
     if next < 1 {
+        return false;
+    }
+    if h.start.0 >= next {
         return false;
     }
     if highest < next - 1 {
@@ -112,10 +126,10 @@ pub fn rules_hold(slot: u32, next: u32, highest: u32, marks: &[u16]) -> bool
     if highest + 1 - next > 512 {
         return false;
     }
-    if !highest_held(next, highest, marks) {
+    if !highest_held(h.next, h.highest, marks) {
         return false;
     }
-    slots_hold(slot, next, highest, marks)
+    slots_hold(h.slot, h.next, h.highest, marks)
 }
 
 // Whether the slot size is 1 to 1,812: the part of refusal 10 that needs no store.
@@ -139,13 +153,17 @@ pub fn sizes_fit(slot: u32, store_length: usize) -> bool
 }
 
 // A state with nothing held.
-fn empty(slot: u32, next: u32, highest: u32) -> Receiver
-    ensures { λ r. ⌜ r ≡ nothingHeld slot next highest ⌝ }
+fn empty(slot: u32, start: SeqNo, next: SeqNo) -> Receiver
+    ensures { λ r. ⌜ r ≡ nothingHeld slot start next ⌝ }
 {
-    Receiver {
+    let none = Head {
         slot: slot,
-        next: SeqNo(next),
-        highest: SeqNo(highest),
+        start: start,
+        next: next,
+        highest: start,
+    };
+    Receiver {
+        head: none,
         marks: [0u16; 512],
     }
 }
@@ -154,22 +172,23 @@ fn empty(slot: u32, next: u32, highest: u32) -> Receiver
 pub fn start(s: SeqNo, slot: u32, store: &[u8]) -> Started
     ensures { λ r. ⌜ started r ≡ startOf s slot (length (now (store .entry))) ⌝ }
 {
-    let after = s.0;
+    let nought = SeqNo(0);
     if !sizes_fit(slot, store.len()) {
-        let unusable = empty(0, 0, 0);
+        let unusable = empty(0, nought, nought);
         return Started {
             answer: Answer::Refused(Refusal::SizeWrong),
             state: unusable,
         };
     }
-    if after == 4294967295 {
-        let unusable = empty(0, 0, 0);
+    if s.0 == 4294967295 {
+        let unusable = empty(0, nought, nought);
         return Started {
             answer: Answer::Refused(Refusal::LastNumber),
             state: unusable,
         };
     }
-    let fresh = empty(slot, after + 1, after);
+    let first = SeqNo(s.0 + 1);
+    let fresh = empty(slot, s, first);
     Started {
         answer: Answer::Done,
         state: fresh,

@@ -40,12 +40,12 @@ use Rattle.sender_meaning.proofs.SubmittingStored.{FitsPlaces, stores}
 pub packet-fits : (r : Receiver) (send recv : StreamId) (chunk : ℕ) → FitsPlaces (dataPacket r send recv) chunk
 unfolding fieldsFrom
 packet-fits r send recv chunk =
-    let m = missingFrom (r .next .0) (r .highest .0) (r .marks) in
-    let nacks = nacksFrom (r .next .0) (r .highest .0) (r .marks) in
-    let through = ackThrough m (r .highest .0) in
+    let m = missingFrom (r .head .next .0) (r .head .highest .0) (r .marks) in
+    let nacks = nacksFrom (r .head .next .0) (r .head .highest .0) (r .marks) in
+    let through = ackThrough m (r .head .highest .0) in
     record {
       long = λ n payload. omega (arith, packet-long through send recv n nacks payload (atLeast255 m));
-      short = λ n payload h. omega (arith, packet-most through send recv n nacks payload (atLeast255 m) (nacks-few (r .next .0) (r .highest .0) (r .marks)));
+      short = λ n payload h. omega (arith, packet-most through send recv n nacks payload (atLeast255 m) (nacks-few (r .head .next .0) (r .head .highest .0) (r .marks)));
     }
 
 module _ (s : Sender) (r : Receiver) (send recv : StreamId) (bytes store : List ℕ) where
@@ -125,7 +125,7 @@ module _ (s : Sender) (r : Receiver) (send recv : StreamId) (bytes store : List 
   -- Its answer in such a state: the receiver alone may be at fault, and past that 21 is given exactly if a number waits.
   pub submit-answer : Sound s store → submitOf s r send recv bytes store .says
       ≡ (refusal 11 when not (rulesOf r) else
-      refusal 10 when not (slotFits (r .slot)) else
+      refusal 10 when not (slotFits (r .head .slot)) else
       refusal 21 when not (isEmpty (waiting s)) else
       refusal 19 when eqb (length bytes) 0 || ltb 65535 (length bytes) else
       refusal 20 when leb 4294967295 (s .next .0 + (chunksOf (s .chunk) (length bytes) - 1)) else
@@ -144,7 +144,7 @@ module _ (s : Sender) (r : Receiver) (send recv : StreamId) (bytes store : List 
           (decLe k 0)
 
   -- none blames the rules or the sizes, where the receiver's are not at fault
-  pub submit-fair : Sound s store → rulesOf r ≡ true → slotFits (r .slot) ≡ true → isFair (submitOf s r send recv bytes store .says) ≡ true
+  pub submit-fair : Sound s store → rulesOf r ≡ true → slotFits (r .head .slot) ≡ true → isFair (submitOf s r send recv bytes store .says) ≡ true
   submit-fair sound keeps fits =
       let n = chunksOf (s .chunk) (length bytes) in
       rw (submit-answer sound, keeps, fits)

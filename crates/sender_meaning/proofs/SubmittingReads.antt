@@ -28,7 +28,7 @@ use Rattle.sender_meaning.proofs.Submitting.{submit-done, submit-count,
 module _ (r : Receiver) (send recv : StreamId) where
   no-ack-clear : bit 10 (ackFieldsOf r .flags) ≡ false
   unfolding fieldsFrom
-  no-ack-clear = rung (λ (x : ℕ). bit 10 x ≡ false) (atLeast255 (missingFrom (r .next .0) (r .highest .0) (r .marks))) (λ e. refl) (λ e. refl)
+  no-ack-clear = rung (λ (x : ℕ). bit 10 x ≡ false) (atLeast255 (missingFrom (r .head .next .0) (r .head .highest .0) (r .marks))) (λ e. refl) (λ e. refl)
 
   -- The packet of a number and a payload of at most 64,491 bytes reads back, for a receiver that keeps the rules.
   pub data-packet-reads : rulesOf r ≡ true → send .0 < 2 ^ 32 → recv .0 < 2 ^ 32 → (number : ℕ) (payload : List ℕ) → number < 2 ^ 32 → length payload ≤ 64491

@@ -126,7 +126,7 @@ module _ (before mid after : Kept) (fair fair' : Bool) (made made' : ℕ → Opt
 pub fair-submit : (s : Sender) (r : Receiver) (to from : StreamId) (bytes store : List ℕ) → Sound s store → fairTo (submit r to from bytes) (submitOf s r to from bytes store .says) ≡ true
 fair-submit s r to from bytes store sound =
     by-bool (isUsable r)
-    (λ t. rw t (submit-fair s r to from bytes store sound (and-left (rulesOf r) _ t) (and-right (rulesOf r) (slotFits (r .slot)) t)))
+    (λ t. rw t (submit-fair s r to from bytes store sound (and-left (rulesOf r) _ t) (and-right (rulesOf r) (slotFits (r .head .slot)) t)))
     (λ f. rw f)
 
 -- a submit that is done makes its packets, and leaves every other number as it stood

@@ -19,7 +19,7 @@ use Rattle.sender_runs.specs.Runs.{Call, submit, send, acks, resend, fet
 
 -- a receiver that keeps its rules, with a slot size in range
 abbrev pub isUsable : Receiver → Bool
-isUsable r = rulesOf r && slotFits (r .slot)
+isUsable r = rulesOf r && slotFits (r .head .slot)
 
 -- not refused for the sender's rules or sizes; a submit may be for those of the receiver that it is given
 abbrev pub fairTo : Call → Said → Bool

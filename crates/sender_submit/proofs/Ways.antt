@@ -110,12 +110,12 @@ unfolding submitSaid
 made s r size storeLength given h =
     let n = chunksOf (s .chunk) size in
     let p11 = past 11 (not (rules s && rulesOf r)) _ given h in
-    let p10 = past 10 (not (sizesFit (s .chunk) (s .count) storeLength && slotFits (r .slot))) _ given (p11 .1) in
+    let p10 = past 10 (not (sizesFit (s .chunk) (s .count) storeLength && slotFits (r .head .slot))) _ given (p11 .1) in
     let p21 = past 21 (ltb 0 (countOf 1 (s .marks))) _ given (p10 .1) in
     let p19 = past 19 (eqb size 0 || ltb 65535 size) _ given (p21 .1) in
     let p20 = past 20 (leb 4294967295 (s .next .0 + (n - 1))) _ given (p19 .1) in
     let p18 = past 18 (ltb (freeOf s) n) _ given (p20 .1) in
-    let z = sized (s .chunk) (s .count) storeLength (and-left (sizesFit (s .chunk) (s .count) storeLength) (slotFits (r .slot)) (not-false _ (p10 .0))) in
+    let z = sized (s .chunk) (s .count) storeLength (and-left (sizesFit (s .chunk) (s .count) storeLength) (slotFits (r .head .slot)) (not-false _ (p10 .0))) in
     let last = leb-false 4294967295 (s .next .0 + (n - 1)) (p20 .0) in
     record {
       keeps = and-right (rules s) (rulesOf r) (not-false _ (p11 .0));

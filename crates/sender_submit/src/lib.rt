@@ -146,7 +146,7 @@ fn submit_done(
         ≡ storedBy (dataPacket r send recv) packets (now (bytes .entry)) s (now (store .entry)) ⌝ }
 {
     let mut missing = [0u32; 512];
-    let acks = receiver_ack::fields(r.next.0, r.highest.0, &r.marks, &mut missing);
+    let acks = receiver_ack::fields(r.head.next, r.head.highest, &r.marks, &mut missing);
     let count = acks.nacks;
     store_all(
         s,

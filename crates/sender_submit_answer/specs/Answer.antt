@@ -26,7 +26,7 @@ submitSaid s r size storeLength =
     -- either state breaks its rules
     refusal 11 when not (rules s && rulesOf r) else
     -- chunk size, slot count or store length wrong, or the receiver's slot size; the receiver's store is not lent
-    refusal 10 when not (sizesFit (s .chunk) (s .count) storeLength && slotFits (r .slot)) else
+    refusal 10 when not (sizesFit (s .chunk) (s .count) storeLength && slotFits (r .head .slot)) else
     -- submit while packets wait
     refusal 21 when ltb 0 (countOf 1 (s .marks)) else
     -- submitted length 0 or above 65,535

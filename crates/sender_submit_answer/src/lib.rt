@@ -19,7 +19,7 @@ fn both_keep(s: Sender, r: Receiver) -> bool
     if !sender_check::valid(s) {
         return false;
     }
-    receiver_state::rules_hold(r.slot, r.next.0, r.highest.0, &r.marks)
+    receiver_state::rules_hold(r.head, &r.marks)
 }
 
 // Whether the sender's sizes fit with its store, and the receiver's slot size, whose store is not lent.
@@ -58,7 +58,7 @@ pub fn judge(s: Sender, r: Receiver, size: usize, store_length: usize) -> Tally
     if !both_keep(s, r) {
         return Tally::Refused(Refusal::StateBroken);
     }
-    if !both_fit(chunk, count, store_length, r.slot) {
+    if !both_fit(chunk, count, store_length, r.head.slot) {
         return Tally::Refused(Refusal::SizeWrong);
     }
     if sender_state::count_of(&marks, 1) > 0 {

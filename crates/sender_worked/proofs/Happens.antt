@@ -19,5 +19,5 @@ use Rattle.sender_runs.specs.Runs.{historyOf}
 use Rattle.sender_worked.specs.Example.{example, heardIn, heard}
 
 pub happens : heardIn (historyOf example) ≡ heard
-unfolding P.sizesFit P.countsFit P.rules P.timerFits P.clockWrong startSaid R.rules R.sizesFit R.slotFits missingFrom fieldsFrom nacksFrom packetBytes sampledOf rtoOf timingFits grownOf run replaced sendSaid armed sendOf acksRefusal acksOf submitSaid storedBy submitOf
+unfolding P.sizesFit P.countsFit P.rules P.timerFits P.clockWrong startSaid R.rulesOf R.sizesFit R.slotFits missingFrom fieldsFrom nacksFrom packetBytes sampledOf rtoOf timingFits grownOf run replaced sendSaid armed sendOf acksRefusal acksOf submitSaid storedBy submitOf
 happens = refl

@@ -25,7 +25,7 @@ example = record {
   started = refl;
   width = refl;
   calls =
-      submit (fresh 0 1) id id (65 ∷ 66 ∷ []) ∷
+      submit (fresh (record { 0 = 0 }) 1) id id (65 ∷ 66 ∷ []) ∷
       send 10 (replicate 25 9) ∷
       acks 1 [] 20 ∷
       [];

@@ -96,7 +96,7 @@ module _ (ends : Ends) (moves : Moves) (j : Joined ends moves) (packet : List �
       by-first (first run number)
       (λ z.
       let not-last : eqb number 4294967295 ≡ false = ne-eqb number 4294967295 (λ e. omega (arith, f .below)) in
-      let room : ltb (r .slot) (length (payloadOf packet)) ≡ false = le-ltb (r .slot) (length (payloadOf packet)) (omega (arith, f .short, known run .slot-is)) in
+      let room : ltb (r .head .slot) (length (payloadOf packet)) ≡ false = le-ltb (r .head .slot) (length (payloadOf packet)) (omega (arith, f .short, known run .slot-is)) in
       let is = accept-answer r (fieldsOf packet .«seq_nro») (payloadOf packet) store (known run .sound) in
       let stands = known run .stands number in
       let stands' = rw (le-ltb number (nextOf run) (omega arith), z) at stands in
@@ -106,7 +106,7 @@ module _ (ends : Ends) (moves : Moves) (j : Joined ends moves) (packet : List �
       inl (is ∙ rw (not-last, m, room)))
       (λ (b : number ≤ highestIn run → ⊥).
       let u : standing r store number ≡ unseen = rw (lt-leb number (highestIn run) (omega arith)) at stands' in
-      by-bool (leb 512 (number - r .next .0))
+      by-bool (leb 512 (number - r .head .next .0))
       (λ t. inr (inr (is ∙ rw (not-last, u, t))))
       (λ t. inl (is ∙ rw (not-last, u, t, room))))
       (decLe number (highestIn run)))

@@ -47,7 +47,7 @@ module _ (ends : Ends) (moves : Moves) where
   senderNext = senderEnd ends moves .state .next .0
 
   abbrev pub receiverNext : ℕ
-  receiverNext = receiverEnd ends moves .state .next .0
+  receiverNext = receiverEnd ends moves .state .head .next .0
 
   -- no number waits, and none flies
   abbrev pub NothingLeft : Type 0

@@ -5,11 +5,11 @@ use mathlib.Core.List.{List·Memᴰ·head}
 use native.Mathlib.Omega.{arith}
 use Rattle.receiver_state.specs.Rules as Receivers
 use Rattle.receiver_state.specs.Start as Receiver
-use Rattle.receiver_calls.specs.Accept.{acceptSaid, accepts}
-use Rattle.receiver_calls.specs.Take.{takeSaid, takes}
+use Rattle.receiver_calls.specs.Accept.{acceptSaid, entering, acceptOf}
+use Rattle.receiver_calls.specs.Take.{takeSaid, passing, takeOf}
 use Rattle.receiver_ack.specs.Missing.{missingFrom}
 use Rattle.receiver_ack.specs.Fields.{fieldsFrom, nacksFrom}
-use Rattle.receiver_ack.specs.Acknowledge.{plainAck, acknowledgeSaid, acknowledges}
+use Rattle.receiver_ack.specs.Acknowledge.{plainAck, acknowledgeSaid, acknowledgeOf}
 use Rattle.packet_read.specs.Options.{afterDestination, optionsIn}
 use Rattle.packet_read.specs.Reading.{readOf}
 use Rattle.packet_write.specs.Writing.{packetBytes}
@@ -35,11 +35,11 @@ use Rattle.stream_worked.specs.Example.{ends, one, packet, ack, sent, ar
 
 -- what each end wrote
 packets : packetsIn (senderHistory ends sent) ≡ packet ∷ []
-unfolding Senders.sizesFit Senders.countsFit Senders.rules Senders.timerFits Senders.clockWrong Sender.startSaid Receivers.rules Receivers.sizesFit Receivers.slotFits Receiver.startSaid acceptSaid accepts takeSaid takes missingFrom fieldsFrom nacksFrom plainAck acknowledgeSaid acknowledges packetBytes sampledOf rtoOf timingFits grownOf run replaced sendSaid armed sendOf acksRefusal acksOf submitSaid storedBy submitOf standing
+unfolding Senders.sizesFit Senders.countsFit Senders.rules Senders.timerFits Senders.clockWrong Sender.startSaid Receivers.rulesOf Receivers.sizesFit Receivers.slotFits Receiver.startSaid acceptSaid entering acceptOf takeSaid passing takeOf missingFrom fieldsFrom nacksFrom plainAck acknowledgeSaid acknowledgeOf packetBytes sampledOf rtoOf timingFits grownOf run replaced sendSaid armed sendOf acksRefusal acksOf submitSaid storedBy submitOf standing
 packets = refl
 
 acked : acksIn (receiverHistory ends arrived) ≡ ack ∷ []
-unfolding Senders.sizesFit Senders.countsFit Senders.rules Senders.timerFits Senders.clockWrong Sender.startSaid Receivers.rules Receivers.sizesFit Receivers.slotFits Receiver.startSaid acceptSaid accepts takeSaid takes missingFrom fieldsFrom nacksFrom plainAck acknowledgeSaid acknowledges packetBytes sampledOf rtoOf timingFits grownOf run replaced sendSaid armed sendOf acksRefusal acksOf submitSaid storedBy submitOf standing
+unfolding Senders.sizesFit Senders.countsFit Senders.rules Senders.timerFits Senders.clockWrong Sender.startSaid Receivers.rulesOf Receivers.sizesFit Receivers.slotFits Receiver.startSaid acceptSaid entering acceptOf takeSaid passing takeOf missingFrom fieldsFrom nacksFrom plainAck acknowledgeSaid acknowledgeOf packetBytes sampledOf rtoOf timingFits grownOf run replaced sendSaid armed sendOf acksRefusal acksOf submitSaid storedBy submitOf standing
 acked = refl
 
 -- and what is read in it
@@ -62,7 +62,7 @@ joined = record { truly = ((((((((tt, tt), tt), came), came), tt), back), back),
 
 -- number 1 is dropped, so it is received, by the theorem
 dropped : Dropped ends moves 1
-unfolding Senders.sizesFit Senders.countsFit Senders.rules Senders.timerFits Senders.clockWrong Sender.startSaid Receivers.rules Receivers.sizesFit Receivers.slotFits Receiver.startSaid acceptSaid accepts takeSaid takes missingFrom fieldsFrom nacksFrom plainAck acknowledgeSaid acknowledges packetBytes sampledOf rtoOf timingFits grownOf run replaced sendSaid armed sendOf acksRefusal acksOf submitSaid storedBy submitOf standing
+unfolding Senders.sizesFit Senders.countsFit Senders.rules Senders.timerFits Senders.clockWrong Sender.startSaid Receivers.rulesOf Receivers.sizesFit Receivers.slotFits Receiver.startSaid acceptSaid entering acceptOf takeSaid passing takeOf missingFrom fieldsFrom nacksFrom plainAck acknowledgeSaid acknowledgeOf packetBytes sampledOf rtoOf timingFits grownOf run replaced sendSaid armed sendOf acksRefusal acksOf submitSaid storedBy submitOf standing
 dropped = record { from-first = omega arith; not-there = refl }
 
 pub received : Received ends moves 1
@@ -70,10 +70,10 @@ received = nothing-forgotten ends moves joined .dropped-received 1 dropped
 
 -- the byte is taken
 pub byte-taken : taken ends moves ≡ 65 ∷ []
-unfolding Senders.sizesFit Senders.countsFit Senders.rules Senders.timerFits Senders.clockWrong Sender.startSaid Receivers.rules Receivers.sizesFit Receivers.slotFits Receiver.startSaid acceptSaid accepts takeSaid takes missingFrom fieldsFrom nacksFrom plainAck acknowledgeSaid acknowledges packetBytes sampledOf rtoOf timingFits grownOf run replaced sendSaid armed sendOf acksRefusal acksOf submitSaid storedBy submitOf standing
+unfolding Senders.sizesFit Senders.countsFit Senders.rules Senders.timerFits Senders.clockWrong Sender.startSaid Receivers.rulesOf Receivers.sizesFit Receivers.slotFits Receiver.startSaid acceptSaid entering acceptOf takeSaid passing takeOf missingFrom fieldsFrom nacksFrom plainAck acknowledgeSaid acknowledgeOf packetBytes sampledOf rtoOf timingFits grownOf run replaced sendSaid armed sendOf acksRefusal acksOf submitSaid storedBy submitOf standing
 byte-taken = refl
 
 -- and one byte counts as submitted
 pub byte-submitted : bytesSubmitted ends moves ≡ 1
-unfolding Senders.sizesFit Senders.countsFit Senders.rules Senders.timerFits Senders.clockWrong Sender.startSaid Receivers.rules Receivers.sizesFit Receivers.slotFits Receiver.startSaid acceptSaid accepts takeSaid takes missingFrom fieldsFrom nacksFrom plainAck acknowledgeSaid acknowledges packetBytes sampledOf rtoOf timingFits grownOf run replaced sendSaid armed sendOf acksRefusal acksOf submitSaid storedBy submitOf standing
+unfolding Senders.sizesFit Senders.countsFit Senders.rules Senders.timerFits Senders.clockWrong Sender.startSaid Receivers.rulesOf Receivers.sizesFit Receivers.slotFits Receiver.startSaid acceptSaid entering acceptOf takeSaid passing takeOf missingFrom fieldsFrom nacksFrom plainAck acknowledgeSaid acknowledgeOf packetBytes sampledOf rtoOf timingFits grownOf run replaced sendSaid armed sendOf acksRefusal acksOf submitSaid storedBy submitOf standing
 byte-submitted = refl

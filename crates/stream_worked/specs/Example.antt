@@ -51,7 +51,7 @@ abbrev pub one : SeqNo
 one = record { 0 = 1 }
 
 abbrev pub sent : Moves
-sent = nothing then atSender (submit (fresh 0 1) id id (65 ∷ [])) then atSender (send 10 (replicate 25 9))
+sent = nothing then atSender (submit (fresh (record { 0 = 0 }) 1) id id (65 ∷ [])) then atSender (send 10 (replicate 25 9))
 
 abbrev pub arrived : Moves
 arrived = sent then atReceiver (accept one (65 ∷ [])) then atReceiver (accept one (65 ∷ [])) then atReceiver (acknowledge id id (replicate 25 9))

@@ -4,11 +4,11 @@ use mathlib.Core.Path.{_≡_, refl}
 use Rattle.packet_write.specs.Writing.{packetBytes}
 use Rattle.receiver_state.specs.Rules as R
 use Rattle.receiver_state.specs.Start.{startSaid}
-use Rattle.receiver_calls.specs.Accept.{acceptSaid, accepts}
-use Rattle.receiver_calls.specs.Take.{takeSaid, takes}
+use Rattle.receiver_calls.specs.Accept.{acceptSaid, entering, acceptOf}
+use Rattle.receiver_calls.specs.Take.{takeSaid, passing, takeOf}
 use Rattle.receiver_ack.specs.Missing.{missingFrom}
 use Rattle.receiver_ack.specs.Fields.{fieldsFrom, nacksFrom}
-use Rattle.receiver_ack.specs.Acknowledge.{plainAck, acknowledgeSaid, acknowledges}
+use Rattle.receiver_ack.specs.Acknowledge.{plainAck, acknowledgeSaid, acknowledgeOf}
 use Rattle.timer.specs.Timer.{sampledOf, rtoOf, timingFits}
 use Rattle.timer.specs.Window.{grownOf, fallenOf}
 use Rattle.sender_state.specs.Rules as P
@@ -19,5 +19,5 @@ use Rattle.worked.specs.Lines.{holds, allHold}
 use Rattle.worked.specs.Table.{table}
 
 pub worked : allHold table ≡ true
-unfolding holds startSaid acceptSaid accepts takeSaid takes R.rules R.slotFits R.sizesFit packetBytes missingFrom fieldsFrom nacksFrom plainAck acknowledgeSaid acknowledges sampledOf rtoOf timingFits grownOf fallenOf P.rules P.countsFit P.timerFits run clockWrong isDue resendRefusal resendOf
+unfolding holds startSaid acceptSaid entering acceptOf takeSaid passing takeOf R.rulesOf R.slotFits R.sizesFit packetBytes missingFrom fieldsFrom nacksFrom plainAck acknowledgeSaid acknowledgeOf sampledOf rtoOf timingFits grownOf fallenOf P.rules P.countsFit P.timerFits run clockWrong isDue resendRefusal resendOf
 worked = refl

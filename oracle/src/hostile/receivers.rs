@@ -33,7 +33,12 @@ pub fn valid(random: &mut Random) -> Receiver {
         4..=8 => random.from_to(255, 258).min(room),
         _ => random.from_to(1, 8).min(room),
     };
-    let mut receiver = Receiver { slot, next, highest: (next - 1) + span as u32, marks: [0; 512] };
+    let start = match random.below(4) {
+        0 => next - 1,
+        1 => (next - 1) - random.below(600).min(next as usize - 1) as u32,
+        _ => random.word() % next,
+    };
+    let mut receiver = Receiver { slot, start, next, highest: (next - 1) + span as u32, marks: [0; 512] };
     let often = if (255..=258).contains(&span) && random.one_in(2) { 0 } else { random.below(5) };
     for above in 0..span {
         if above + 1 == span || random.below(4) < often {
@@ -63,6 +68,9 @@ pub fn broken(random: &mut Random, rule: &str) -> Receiver {
 fn break_rule(receiver: &mut Receiver, random: &mut Random, rule: &str) {
     let last_mark = |receiver: &Receiver| receiver.highest as usize % 512;
     match RULES.iter().position(|name| *name == rule) {
+        Some(0) if random.one_in(2) => {
+            receiver.start = receiver.next.saturating_add([0, 1, random.word()][random.below(3)]);
+        }
         Some(0) => {
             *receiver = Receiver { next: 0, highest: random.below(512) as u32, ..UNUSABLE };
             receiver.marks[last_mark(receiver)] = 1;
@@ -78,6 +86,7 @@ fn break_rule(receiver: &mut Receiver, random: &mut Random, rule: &str) {
         Some(3) => receiver.marks[last_mark(receiver)] = 0,
         Some(4) => {
             receiver.next = TOP - random.below(512) as u32;
+            receiver.start = random.word() % receiver.next;
             receiver.highest = TOP;
             receiver.marks = [0; 512];
             receiver.marks[last_mark(receiver)] = 1;
@@ -96,7 +105,8 @@ fn break_rule(receiver: &mut Receiver, random: &mut Random, rule: &str) {
 
 /// Any state at all: fields that have nothing to do with each other.
 fn noise(random: &mut Random) -> Receiver {
-    let mut receiver = Receiver { slot: random.word(), next: random.word(), highest: random.word(), marks: [0; 512] };
+    let [slot, start, next, highest] = [(); 4].map(|()| random.word());
+    let mut receiver = Receiver { slot, start, next, highest, marks: [0; 512] };
     for _ in 0..random.below(8) {
         receiver.marks[random.below(512)] = random.word() as u16;
     }
@@ -138,9 +148,10 @@ impl Draft {
             }
         }
         for _ in 0..self.random.from_to(1, 6) {
-            match self.random.below(8) {
+            match self.random.below(9) {
                 0..=3 => self.accept(),
                 4 | 5 => self.take(),
+                6 => self.why(),
                 _ => self.acknowledge(),
             }
         }
@@ -187,6 +198,21 @@ impl Draft {
         let needed = self.world.receiver.held(self.world.receiver.next).unwrap_or(0);
         let output = self.output(needed);
         self.ask(Call::Take(output));
+    }
+
+    fn why(&mut self) {
+        let (random, receiver) = (&mut self.random, &self.world.receiver);
+        let around = |random: &mut Random, number: u32| number.wrapping_add(random.below(3) as u32).wrapping_sub(1);
+        let number = match random.below(8) {
+            0 => around(random, receiver.start),
+            1 => around(random, receiver.next),
+            2 => around(random, receiver.next.wrapping_add(511)),
+            3 => TOP - random.below(2) as u32,
+            4 => random.word(),
+            5 => around(random, receiver.highest),
+            _ => receiver.next.wrapping_add(random.below(8) as u32),
+        };
+        self.ask(Call::Why(number));
     }
 
     fn acknowledge(&mut self) {

@@ -14,7 +14,7 @@ use shapes::SHAPES;
 use std::{cell::RefCell, collections::BTreeMap};
 
 /// Every number that a call can give, in document 01's order. Of `destination` and `valid` these are the answers.
-const CALLS: [(&str, &[u64]); 15] = [
+const CALLS: [(&str, &[u64]); 16] = [
     ("read", &[2, 1, 3, 4, 5, 6, 0]),
     ("destination", &[0, 40, 64, 96, 132]),
     ("write", &[8, 5, 6, 9, 4, 9, 2, 7, 0]),
@@ -22,6 +22,7 @@ const CALLS: [(&str, &[u64]); 15] = [
     ("accept", &[11, 10, 12, 13, 14, 15, 16, 0]),
     ("take", &[11, 10, 17, 7, 0]),
     ("ack", &[11, 10, 7, 0]),
+    ("why", &[11, 10, 0]),
     ("begin", &[10, 20, 0]),
     ("valid", &[0, 1]),
     ("submit", &[11, 10, 21, 19, 20, 18, 0]),

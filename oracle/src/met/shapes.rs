@@ -6,10 +6,11 @@ use crate::{
         sender::{IN_FLIGHT, WAITING},
         serial::LineReader,
         timer::rto,
+        why::why,
     },
 };
 
-pub const SHAPES: [&str; 36] = [
+pub const SHAPES: [&str; 44] = [
     "accept: the next to take",
     "accept: in a gap behind it",
     "accept: above highest",
@@ -20,6 +21,14 @@ pub const SHAPES: [&str; 36] = [
     "ack: 1 to 254 missing",
     "ack: 255 missing",
     "ack: more than 255 missing",
+    "why: the unusable last number",
+    "why: at or below the start",
+    "why: taken",
+    "why: ready",
+    "why: held behind a gap",
+    "why: missing",
+    "why: not yet seen",
+    "why: beyond the span",
     "submit: nothing stored before",
     "submit: among packets in flight",
     "submit: 255 missing",
@@ -48,6 +57,17 @@ pub const SHAPES: [&str; 36] = [
     "feed: bytes behind a packet",
 ];
 
+const WHY: [(u8, &str); 8] = [
+    (1, "why: the unusable last number"),
+    (2, "why: at or below the start"),
+    (3, "why: taken"),
+    (4, "why: ready"),
+    (5, "why: held behind a gap"),
+    (6, "why: missing"),
+    (7, "why: not yet seen"),
+    (8, "why: beyond the span"),
+];
+
 /// The cases that this call falls under, if it is not refused.
 pub fn of(world: &World, call: &Call) -> Vec<&'static str> {
     let (receiver, sender) = (&world.receiver, &world.sender);
@@ -73,6 +93,10 @@ pub fn of(world: &World, call: &Call) -> Vec<&'static str> {
             255 => "ack: 255 missing",
             _ => "ack: more than 255 missing",
         }),
+        Call::Why(number) => {
+            let case = why(receiver, *number).map_or(0, |(case, _)| case);
+            shapes.extend(WHY.iter().find(|(number, _)| *number == case).map(|(_, name)| *name));
+        }
         Call::Submit { .. } => {
             shapes.push(match in_flight.len() {
                 0 => "submit: nothing stored before",

@@ -13,7 +13,7 @@ pub fn of(world: &World, call: &Call) -> Option<(&'static str, &'static str)> {
     let clocked = |store, clock| [sender(store), vec![world.sender.clock_wrong(clock)]].concat();
     let (state, found) = match call {
         Call::Accept { .. } | Call::Take(_) => ("receiver", receiver(receiver_store)),
-        Call::Acknowledge { .. } => ("receiver", receiver(None)),
+        Call::Acknowledge { .. } | Call::Why(_) => ("receiver", receiver(None)),
         Call::Fetch { .. } => ("sender", sender(sender_store)),
         Call::Submit { .. } => {
             let (sender, receiver) = (sender(sender_store), receiver(None));

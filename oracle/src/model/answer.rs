@@ -7,6 +7,7 @@ use super::{
     sending,
     serial::{self, LineReader},
     timer,
+    why,
     write::write,
     Refusal,
 };
@@ -70,7 +71,7 @@ impl World {
             Call::Fallen(window) => plain(format!("window {}", timer::fallen(*window))),
             Call::Valid => plain(format!("valid {}", u8::from(self.sender.broken().is_empty()))),
             Call::Start { .. } | Call::SetReceiver(_) | Call::SetReceiverStore(_) => self.receiver_set(call),
-            Call::Accept { .. } | Call::Take(_) | Call::Acknowledge { .. } => self.receiver_call(call),
+            Call::Accept { .. } | Call::Take(_) | Call::Acknowledge { .. } | Call::Why(_) => self.receiver_call(call),
             Call::Begin { .. } | Call::SetSender(_) | Call::SetSenderStore(_) => self.sender_set(call),
             Call::Submit { .. } => self.submit(call),
             Call::StartLine(_) | Call::SetLine(_) | Call::SetLineBuffer(_) | Call::Feed(_) => self.line_call(call),
@@ -115,6 +116,11 @@ impl World {
                 let mut output = output.bytes();
                 let result = acknowledge(receiver, *ids, &mut output);
                 told("ack", &result, &format!("{} {}", result.unwrap_or(0), checksum(&output)))
+            }
+            Call::Why(number) => {
+                let result = why::why(receiver, *number);
+                let (case, smallest) = result.unwrap_or((0, 0));
+                told("why", &result, &format!("{case} {smallest}"))
             }
             _ => unreachable!("no call of a receiver"),
         }
@@ -223,10 +229,11 @@ fn read(bytes: &[u8]) -> Line {
     plain(line)
 }
 
-/// SLOT NEXT HIGHEST N I MARK ..
+/// SLOT START NEXT HIGHEST N I MARK ..
 fn receiver_line(receiver: &Receiver) -> String {
     let marks: Vec<usize> = (0..512).filter(|i| receiver.marks[*i] != 0).collect();
-    let mut line = format!("{} {} {} {}", receiver.slot, receiver.next, receiver.highest, marks.len());
+    let mut line = format!("{} {} {} {}", receiver.slot, receiver.start, receiver.next, receiver.highest);
+    write!(line, " {}", marks.len()).unwrap();
     for i in marks {
         write!(line, " {i} {}", receiver.marks[i]).unwrap();
     }

@@ -6,6 +6,7 @@
 //! | `packet.rs` | "Packet on the wire", reading |
 //! | `write.rs` | the same, writing |
 //! | `receiver.rs`, `ack.rs` | "Receiver", "Acknowledgement" |
+//! | `why.rs` | document 02, request [6] |
 //! | `timer.rs` | "Sender": timer and window |
 //! | `sender.rs`, `sending.rs` | "Sender": the state and its rules; the calls |
 //! | `serial.rs` | document 02, [7]: packets over a serial line |
@@ -24,6 +25,7 @@ pub mod sender;
 pub mod sending;
 pub mod serial;
 pub mod timer;
+pub mod why;
 pub mod write;
 
 /// A refusal: its number in document 01's table, and the bits of the later ones in the call's list that applied too.

@@ -5,6 +5,8 @@ use super::{refuse, Refusal, TOP};
 pub struct Receiver {
     /// S.
     pub slot: u32,
+    /// The number that the start came after (request [6]).
+    pub start: u32,
     /// Next to take.
     pub next: u32,
     pub highest: u32,
@@ -13,11 +15,11 @@ pub struct Receiver {
 }
 
 /// What the registers hold at first, and what a refused start leaves (D9).
-pub const UNUSABLE: Receiver = Receiver { slot: 0, next: 0, highest: 0, marks: [0; 512] };
+pub const UNUSABLE: Receiver = Receiver { slot: 0, start: 0, next: 0, highest: 0, marks: [0; 512] };
 
-/// The state rules, in document 01's order. That a length is 0 where nothing is held cannot be broken, by how a mark is written.
+/// The state rules, in document 01's order, and request [6]'s, without which next could not be broken alone. That a length is 0 where nothing is held cannot be broken, by how a mark is written.
 pub const RULES: [&str; 7] = [
-    "next at least 1",
+    "next at least 1, and the start below it",
     "highest at least next - 1",
     "highest at most next + 511",
     "highest held unless it is next - 1",
@@ -41,7 +43,7 @@ impl Receiver {
         let span = next..=next + 511;
         let held: Vec<i64> = span.clone().filter(|number| self.mark(*number) != 0).collect();
         let holds = [
-            next >= 1,
+            next >= 1 && i64::from(self.start) < next,
             highest >= next - 1,
             highest <= next + 511,
             // A highest outside the span is next - 1, or breaks one of the two rules before.
@@ -81,7 +83,7 @@ impl Receiver {
 }
 
 pub fn start(s: u32, slot: u32, store: &[u8]) -> Result<Receiver, Refusal> {
-    let fresh = Receiver { slot, next: s.wrapping_add(1), highest: s, marks: [0; 512] };
+    let fresh = Receiver { slot, start: s, next: s.wrapping_add(1), highest: s, marks: [0; 512] };
     refuse("start", &[(10, !fresh.wrong(Some(store)).is_empty()), (12, s == TOP)])?;
     Ok(fresh)
 }

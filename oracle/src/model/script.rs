@@ -76,6 +76,7 @@ impl Rest<'_> {
             b'B' => Call::SetReceiverStore(self.store()?),
             b'a' => Call::Accept { number: self.u32()?, payload: self.bytes(70_000)? },
             b't' => Call::Take(self.output()?),
+            b'y' => Call::Why(self.u32()?),
             b'k' => Call::Acknowledge { ids: self.ids()?, output: self.output()? },
             b'Z' => Call::Begin { first: self.u32()?, chunk: self.u32()?, count: self.u32()?, store: self.store()? },
             b'P' => Call::SetSender(self.sender()?),
@@ -122,7 +123,8 @@ impl Rest<'_> {
     }
 
     fn receiver(&mut self) -> Option<Receiver> {
-        let mut receiver = Receiver { slot: self.u32()?, next: self.u32()?, highest: self.u32()?, marks: [0; 512] };
+        let (slot, start, next, highest) = (self.u32()?, self.u32()?, self.u32()?, self.u32()?);
+        let mut receiver = Receiver { slot, start, next, highest, marks: [0; 512] };
         for _ in 0..self.count(512)? {
             let i = self.count(511)?;
             receiver.marks[usize::from(i)] = self.u16()?;

@@ -41,13 +41,16 @@ use denote.Triple.Clauses.{ensured, lasts}
 use denote.Triple.Table.{entered, cited}
 use denote.Triple.Walked.{says, Stays, stay-ref, stay-dropped, walkOf, goes-dropped, goes-ref, Walks, ends-at, walked, walk-meets}
 use denote.Exit.{yes}
+use Rattle.terms.specs.declared.SeqNo.{SeqNo}
+use Rattle.terms.proofs.SeqNo as Q
+use Rattle.terms.proofs.SeqNo.Laws as Q′
 use Rattle.receiver_state.specs.declared.Receiver.{Receiver}
 use Rattle.receiver_state.specs.Start.{startOf}
 use Rattle.receiver_state.proofs.Receiver as T
 use Rattle.receiver_state.proofs.Receiver.Laws as T′
 use Rattle.receiver_in_place.proofs.State.{vals}
 use Rattle.host_numbers.specs.declared.Begun.{Begun}
-use Rattle.host_numbers.specs.Numbers.{hostedStart, begun}
+use Rattle.host_numbers.specs.Numbers.{startForHost, withNumber}
 use Rattle.host_numbers.proofs.Begun as P
 use Rattle.host_numbers.proofs.Begun.Laws as P′
 use Rattle.host_numbers.proofs.begin as core
@@ -60,16 +63,16 @@ use Rattle.host_library.proofs.digitmeadow_start.Statement as stated
 use Rattle.host_library.proofs.digitmeadow_start.Code as code
 
 abbrev stayed : Stays (f.ended .signature .params) (f.ended .kept)
-stayed = (stay-ref (0 ∷ []) tt (plain (λ _. T.the-row)), (stay-dropped (plain (λ _. u32)) yes, (stay-dropped (plain (λ _. u32)) yes, (stay-dropped (shrSliceOf (1 ∷ []) tt (plain (λ _. u8))) yes, tt))))
+stayed = (stay-ref (0 ∷ []) tt (plain (λ _. T.the-row)), (stay-dropped (plain (λ _. Q.the-row)) yes, (stay-dropped (plain (λ _. u32)) yes, (stay-dropped (shrSliceOf (1 ∷ []) tt (plain (λ _. u8))) yes, tt))))
 
 -- the contract that the proof cites
 abbrev Core : {M : Type 1} (𝓤 : URA M) (H : Heap 𝓤) (A : Atoms 𝓤) (mem : Memory → SProp 𝓤) (run : Routine → Fun 𝓤) → Contract 𝓤
 Core 𝓤 H A mem run = tripleOf 𝓤 H A core.signature (core.spec 𝓤 H A mem run)
 
 module _ {M : Type 1} (𝓤 : URA M) (H : Heap 𝓤) (A : Atoms 𝓤) (W : Given 𝓤 H A) (at-mem : Memory → SProp 𝓤) (run : Routine → Fun 𝓤) (κ κ′ : Lft) (bounds : AllOutlive 2 (f.signature .outlives) (κ, (κ′, tt))) (q q′ : Share)
-    (b o : ℕ) (γ : GName) (h : Receiver) (s slot : ℕ) (store : RefT (List ℕ)) (s-fits : s < 2 ^ 32) (slot-fits : slot < 2 ^ 32) (store-room : Room u8 (length (store .now))) where
+    (b o : ℕ) (γ : GName) (h : Receiver) (s : SeqNo) (slot : ℕ) (store : RefT (List ℕ)) (s-is : Is Q.the-row s (LL.vals Q.the-type Q′.the-laws s)) (slot-fits : slot < 2 ^ 32) (store-room : Room u8 (length (store .now))) where
   abbrev Arg : Type 0
-  Arg = RefT Receiver × (ℕ × (ℕ × (RefT (List ℕ) × Unit {0})))
+  Arg = RefT Receiver × (SeqNo × (ℕ × (RefT (List ℕ) × Unit {0})))
 
   abbrev x : Arg
   x = (record { ptr = (b, o); name = γ; now = h }, (s, (slot, (store, tt))))
@@ -79,27 +82,27 @@ module _ {M : Type 1} (𝓤 : URA M) (H : Heap 𝓤) (A : Atoms 𝓤) (W : Given
   m = sliceVal (store .ptr) (length (store .now))
 
   abbrev at : List Val × (List Val × (List Val × (List Val × Unit {0})))
-  at = (vptr b o ∷ [], (vint w32 s ∷ [], (vint w32 slot ∷ [], (m ∷ [], tt))))
+  at = (vptr b o ∷ [], (LL.val Q.the-type Q′.the-laws s ∷ [], (vint w32 slot ∷ [], (m ∷ [], tt))))
 
   abbrev Post : Val → SProp 𝓤
   Post = walkOf 𝓤 H A f.ended stayed (f.clauses 𝓤 H A at-mem run) .post (((κ, (κ′, tt)), (q, (q′, tt)), bounds, x, at), tt)
 
   -- what the callee's triple binds outside: the state as it lies there, and the store at its own lifetime
-  abbrev given : Receiver × (ℕ × (ℕ × (RefT (List ℕ) × Unit {0})))
+  abbrev given : Receiver × (SeqNo × (ℕ × (RefT (List ℕ) × Unit {0})))
   given = (h, (s, (slot, (store, tt))))
 
   abbrev at-given : List Val × (List Val × (List Val × (List Val × Unit {0})))
-  at-given = (vals h, (vint w32 s ∷ [], (vint w32 slot ∷ [], (m ∷ [], tt))))
+  at-given = (vals h, (LL.val Q.the-type Q′.the-laws s ∷ [], (vint w32 slot ∷ [], (m ∷ [], tt))))
 
   abbrev to-core : Core 𝓤 H A at-mem run .Ghost
   to-core = (((κ′, tt), (q′, tt), tt, given, at-given), tt)
 
-  goes-core : ent 𝓤 (sep 𝓤 (sep 𝓤 (A .lft κ′ q′) (sem 𝓤 H A ftrue)) (sem 𝓤 H A (owns (T.the-row ∷ u32 ∷ u32 ∷ ShrSlice (named 0) κ′ u8 ∷ []) given at-given))) (Core 𝓤 H A at-mem run .pre to-core)
-  goes-core = qed W (((‵ (flft κ′ q′) ⊛ ‵ ftrue) ⊛ ‵ (owns (T.the-row ∷ u32 ∷ u32 ∷ ShrSlice (named 0) κ′ u8 ∷ []) given at-given)) ∷ []) ∵ frame ! $ done !
+  goes-core : ent 𝓤 (sep 𝓤 (sep 𝓤 (A .lft κ′ q′) (sem 𝓤 H A ftrue)) (sem 𝓤 H A (owns (T.the-row ∷ Q.the-row ∷ u32 ∷ ShrSlice (named 0) κ′ u8 ∷ []) given at-given))) (Core 𝓤 H A at-mem run .pre to-core)
+  goes-core = qed W (((‵ (flft κ′ q′) ⊛ ‵ ftrue) ⊛ ‵ (owns (T.the-row ∷ Q.the-row ∷ u32 ∷ ShrSlice (named 0) κ′ u8 ∷ []) given at-given)) ∷ []) ∵ frame ! $ done !
 
   -- what it says
   abbrev Said : Begun → Type 0
-  Said r = begun (r .refusal) (r .state) ≡ hostedStart h (startOf (record { 0 = s }) slot (length (store .now)))
+  Said r = withNumber (r .refusal) (r .state) [] ≡ startForHost h (startOf s slot (length (store .now)))
 
   core-of : (r : Begun) → ent 𝓤 (ensured 𝓤 H A core.ended (core.clauses 𝓤 H A at-mem run) (κ′, tt) given tt r) (fact 𝓤 (Said r))
   core-of r = exE 𝓤 _ (λ ws. snd∗ 𝓤 (sem 𝓤 H A (lasts core.ended (κ′, tt) given ws)) (fact 𝓤 (Said r)))
@@ -120,11 +123,11 @@ module _ {M : Type 1} (𝓤 : URA M) (H : Heap 𝓤) (A : Atoms 𝓤) (W : Given
       move ! (1 ∷ 0 ∷ []) $ fjoin ! $ owned ! u32 (Is u32) (uint-makes 𝓤 H A W w32) (r .refusal) _ (refl, fits) $ move ! (1 ∷ 0 ∷ []) $ done !
 
   module _ (C : Calls 𝓤 H) (Λ : Loops 𝓤 H) (fm : FmC 𝓤 H (W .laws) C) (known : Triple 𝓤 (C #host-numbers·begin) (Core 𝓤 H A at-mem run)) where
-    walk : ent 𝓤 (onEntry 𝓤 H A f.signature (κ, (κ′, tt)) (q, (q′, tt)) x at) (WpFn 𝓤 H C Λ code.function (vptr b o ∷ vint w32 s ∷ vint w32 slot ∷ m ∷ []) Post)
+    walk : ent 𝓤 (onEntry 𝓤 H A f.signature (κ, (κ′, tt)) (q, (q′, tt)) x at) (WpFn 𝓤 H C Λ code.function (vptr b o ∷ LL.val Q.the-type Q′.the-laws s ∷ vint w32 slot ∷ m ∷ []) Post)
     walk =
-        qed W ((‵ (flft κ q) ⊛ ‵ (flft κ′ q′) ⊛ ‵ ftrue) ∷ ‵ (owns (MutRef (named 0) κ T.the-row ∷ u32 ∷ u32 ∷ ShrSlice (named 1) κ′ u8 ∷ []) x at) ∷ []) ∵ enter ! C Λ code.function (vptr b o ∷ vint w32 s ∷ vint w32 slot ∷ m ∷ []) _ $
+        qed W ((‵ (flft κ q) ⊛ ‵ (flft κ′ q′) ⊛ ‵ ftrue) ∷ ‵ (owns (MutRef (named 0) κ T.the-row ∷ Q.the-row ∷ u32 ∷ ShrSlice (named 1) κ′ u8 ∷ []) x at) ∷ []) ∵ enter ! C Λ code.function (vptr b o ∷ LL.val Q.the-type Q′.the-laws s ∷ vint w32 slot ∷ m ∷ []) _ $
         alloc1 ! (λ l₀. alloc1 ! (λ l₁. alloc1 ! (λ l₂. alloc1 ! (λ l₃. alloc1 ! (λ l₄. alloc1 ! (λ l₅. alloc1 ! (λ l₆. alloc0 ! $ params1 ! $
-        pass1 ! (init ! 10 refl (tt, tt)) $ pass1 ! (init ! 8 refl (tt, record { fits = s-fits })) $ pass1 ! (init ! 6 refl (tt, record { fits = slot-fits })) $ pass1 ! (init ! 4 refl (tt, (tt, (record { fits = store-room .0 }, tt)))) $ pass0 ! $
+        pass1 ! (init ! 10 refl (tt, tt)) $ pass1 ! (init ! 8 refl (LL.lawful Q.the-type Q′.the-laws 𝓤 H A W .typed s _ s-is .0)) $ pass1 ! (init ! 6 refl (tt, record { fits = slot-fits })) $ pass1 ! (init ! 4 refl (tt, (tt, (record { fits = store-room .0 }, tt)))) $ pass0 ! $
         -- the borrow is opened
         move ! (15 ∷ []) $ fsplit ! $ fsplit3 ! $ drop ! $ move ! (17 ∷ []) $ split ! $ move ! (2 ∷ 3 ∷ 0 ∷ []) $
         opens ! tt T.the-row {h = h} b o (λ vs. spelt ! T.the-row (Is T.the-row) (shows 𝓤 H A T.the-row) vals (LL.tells T.the-type T′.the-laws) fullShare h vs b o $
@@ -150,14 +153,14 @@ module _ {M : Type 1} (𝓤 : URA M) (H : Heap 𝓤) (A : Atoms 𝓤) (W : Given
 
 module _ {M : Type 1} (𝓤 : URA M) (H : Heap 𝓤) (A : Atoms 𝓤) (W : Given 𝓤 H A) (mem : Memory → SProp 𝓤) (run : Routine → Fun 𝓤) where
   f-walks : (C : Calls 𝓤 H) (Λ : Loops 𝓤 H) → FmC 𝓤 H (W .laws) C → Triple 𝓤 (C #host-numbers·begin) (Core 𝓤 H A mem run) → Walks 𝓤 H A f.ended stayed (WpFn 𝓤 H C Λ code.function) (f.clauses 𝓤 H A mem run)
-  f-walks C Λ fm known = walked 𝓤 H A f.ended stayed (f.clauses 𝓤 H A mem run) (WpFn 𝓤 H C Λ code.function) (λ κs. (ptr-vals, (uint-vals w32, (uint-vals w32, (slice-vals, tt)))))
-      (λ κs. (mut-tells (named 0) (κs .0) T.the-row, (uint-tells w32, (uint-tells w32, (shr-slice-tells (named 1) (κs .1 .0) u8, tt)))))
-      (λ κs qs bounds a g are. via 𝓤 _ (fst∗ 𝓤 _ (emp 𝓤)) (walk 𝓤 H A W mem run (κs .0) (κs .1 .0) bounds (qs .0) (qs .1 .0) (a .0 .ptr .0) (a .0 .ptr .1) (a .0 .name) (a .0 .now) (a .1 .0) (a .1 .1 .0) (a .1 .1 .1 .0) (are .1 .0 .1) (are .1 .1 .0 .1) (are .1 .1 .1 .0 .0 .1) C Λ fm known))
+  f-walks C Λ fm known = walked 𝓤 H A f.ended stayed (f.clauses 𝓤 H A mem run) (WpFn 𝓤 H C Λ code.function) (λ κs. (ptr-vals, (LL.vals Q.the-type Q′.the-laws, (uint-vals w32, (slice-vals, tt)))))
+      (λ κs. (mut-tells (named 0) (κs .0) T.the-row, (LL.tells Q.the-type Q′.the-laws, (uint-tells w32, (shr-slice-tells (named 1) (κs .1 .0) u8, tt)))))
+      (λ κs qs bounds a g are. via 𝓤 _ (fst∗ 𝓤 _ (emp 𝓤)) (walk 𝓤 H A W mem run (κs .0) (κs .1 .0) bounds (qs .0) (qs .1 .0) (a .0 .ptr .0) (a .0 .ptr .1) (a .0 .name) (a .0 .now) (a .1 .0) (a .1 .1 .0) (a .1 .1 .1 .0) (are .1 .0) (are .1 .1 .0 .1) (are .1 .1 .1 .0 .0 .1) C Λ fm known))
 
 f-meets : {M : Type 1} (𝓤 : URA M) (H : Heap 𝓤) (A : Atoms 𝓤) → Given 𝓤 H A → (mem : Memory → SProp 𝓤) (run : Routine → Fun 𝓤) (𝓣 : Tables 𝓤 H) → Triple 𝓤 (𝓣 .C #host-numbers·begin) (Core 𝓤 H A mem run)
     → Meets 𝓤 H A f.signature (WpFn 𝓤 H (𝓣 .C) (𝓣 .Λ) code.function) (f.spec 𝓤 H A mem run)
 f-meets 𝓤 H A W mem run 𝓣 known =
-    walk-meets 𝓤 H A f.ended stayed W (goes-ref 𝓤 H A W 2 0 tt (plain (λ _. T.the-row)), (goes-dropped 𝓤 H A W 2 (plain (λ _. u32)) yes (λ κs x f. refl), (goes-dropped 𝓤 H A W 2 (plain (λ _. u32)) yes (λ κs x f. refl), (goes-dropped 𝓤 H A W 2 (shrSliceOf (1 ∷ []) tt (plain (λ _. u8))) yes (λ κs x f. refl), tt)))) (f.clauses 𝓤 H A mem run)
+    walk-meets 𝓤 H A f.ended stayed W (goes-ref 𝓤 H A W 2 0 tt (plain (λ _. T.the-row)), (goes-dropped 𝓤 H A W 2 (plain (λ _. Q.the-row)) yes (λ κs x f. refl), (goes-dropped 𝓤 H A W 2 (plain (λ _. u32)) yes (λ κs x f. refl), (goes-dropped 𝓤 H A W 2 (shrSliceOf (1 ∷ []) tt (plain (λ _. u8))) yes (λ κs x f. refl), tt)))) (f.clauses 𝓤 H A mem run)
     (WpFn 𝓤 H (𝓣 .C) (𝓣 .Λ) code.function) (WpFn-mono 𝓤 H (W .laws) 𝓣 code.function) (f-walks 𝓤 H A W mem run (𝓣 .C) (𝓣 .Λ) (fmOf 𝓤 H (W .laws) 𝓣) known)
 
 pub digitmeadow-start-spec : {M : Type 1} → stated.statement M

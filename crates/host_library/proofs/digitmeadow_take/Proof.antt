@@ -52,7 +52,7 @@ use Rattle.receiver_in_place.proofs.take_lent.Symbol as core-def
 use Rattle.receiver_in_place.proofs.take_lent.Symbol.{name as #receiver-in-place·take-lent}
 use Rattle.receiver_in_place.proofs.take_lent.Met as core-thm
 use Rattle.host_numbers.specs.declared.Counted.{Counted}
-use Rattle.host_numbers.specs.Numbers.{inNumbers, hosted, counted}
+use Rattle.host_numbers.specs.Numbers.{inNumbers, forHost, withCount}
 use Rattle.host_numbers.proofs.Counted as K
 use Rattle.host_numbers.proofs.Counted.Laws as K′
 use Rattle.host_numbers.proofs.of_given as told
@@ -124,8 +124,8 @@ module _ {M : Type 1} (𝓤 : URA M) (H : Heap 𝓤) (A : Atoms 𝓤) (W : Given
   told-of : (a : Answer) (c : Counted) → ent 𝓤 (ensured 𝓤 H A told.ended (told.clauses 𝓤 H A at-mem run) tt (a, tt) tt c) (fact 𝓤 (c ≡ inNumbers (saidOf a)))
   told-of a c = exE 𝓤 _ (λ ws. snd∗ 𝓤 (sem 𝓤 H A (lasts told.ended tt (a, tt) ws)) (fact 𝓤 (c ≡ inNumbers (saidOf a))))
 
-  says-so : (a : Answer) (c : Counted) (st : Receiver) (zs : List ℕ) → Said a st zs → c ≡ inNumbers (saidOf a) → counted c st zs ≡ hosted (takeOf h (store .now) (output .now))
-  says-so a c st zs e d = (λ k. counted (d k) st zs) ∙ ap hosted e
+  says-so : (a : Answer) (c : Counted) (st : Receiver) (zs : List ℕ) → Said a st zs → c ≡ inNumbers (saidOf a) → withCount c st zs ≡ forHost (takeOf h (store .now) (output .now))
+  says-so a c st zs e d = (λ k. withCount (d k) st zs) ∙ ap forHost e
 
   exits : (a : Answer) (c : Counted) (st : Receiver) (zs : List ℕ) → Said a st zs → c ≡ inNumbers (saidOf a) → length zs ≡ length (output .now) → Is K.the-row c (LL.vals K.the-type K′.the-laws c)
       → ent 𝓤 (⋆ 𝓤 H A ((‵ (flft κ q) ⊛ ‵ (flft κ′ q′) ⊛ ‵ (flft κ″ q″) ⊛ ‵ ftrue) ∷ ‵ (finally u8 (output .name) zs) ∷ ‵ (fres γ (T.the-row .coded .code st)) ∷ [])) (Post (LL.val K.the-type K′.the-laws c))

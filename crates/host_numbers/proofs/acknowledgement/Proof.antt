@@ -1,6 +1,6 @@
 -- `host_numbers::acknowledgement` meets its contract: it gives what `receiver_ack::acknowledge` says, in numbers. Assumes nothing.
 use mathlib.Core.Path.{_∙_, ap}
-use Rattle.host_numbers.specs.Numbers.{hostedAck, wrote}
+use Rattle.host_numbers.specs.Numbers.{ackForHost, withOutput}
 use borrow.Author.Needs.{needs}
 use Rattle.host_numbers.proofs.acknowledgement.Statement.{statement}
 use Rattle.host_numbers.proofs.acknowledgement.Tie as tie
@@ -17,7 +17,7 @@ same-length c = search needs
 returns : tie.Need-returns
 returns c =
     let a = c .before .before .before in
-    (λ k. wrote (c .of-acknowledged .ensures k) (a .acknowledge .last .1 .1 .1 .0)) ∙ ap hostedAck (a .acknowledge .ensures)
+    (λ k. withOutput (c .of-acknowledged .ensures k) (a .acknowledge .last .1 .1 .1 .0)) ∙ ap ackForHost (a .acknowledge .ensures)
 
 pub acknowledgement-spec : {M : Type 1} → statement M
 acknowledgement-spec =

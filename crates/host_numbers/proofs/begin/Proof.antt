@@ -1,8 +1,9 @@
 -- `host_numbers::begin` meets its contract: it gives what `receiver_state::start` says, in numbers, and where that is a refusal the state that was given. Assumes nothing.
 use Prim.Native.Nat.{ℕ}
 use mathlib.Core.Path.{_∙_, ap}
+use mathlib.Core.List.{[]}
 use Rattle.terms.specs.declared.Answer.the-variants as A
-use Rattle.host_numbers.specs.Numbers.{begun}
+use Rattle.host_numbers.specs.Numbers.{withNumber}
 use Rattle.host_numbers.proofs.Starts.{known-start}
 use borrow.Author.Needs.{needs}
 use Rattle.host_numbers.proofs.begin.Statement.{statement}
@@ -28,7 +29,7 @@ returns c =
 returns-2 : tie.Need-returns-2
 returns-2 c =
     let b = c .before .before .before .before .before in
-    ap (λ (n : ℕ). begun n (b .before .before .args .r)) (c .number .ensures)
+    ap (λ (n : ℕ). withNumber n (b .before .before .args .r) []) (c .number .ensures)
     ∙ known-start (b .before .before .args .r) _ (b .start .result) (A.Refused _) (c .before .before .answer .given .1) (b .start .ensures)
 
 pub begin-spec : {M : Type 1} → statement M

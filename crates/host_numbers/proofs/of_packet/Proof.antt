@@ -18,22 +18,23 @@ of-span-requires-4 c κs = search needs
 
 returns : tie.Need-returns
 returns c =
-    let p = c .before .before .before .before .args .p in
+    let d = c .before .before .before .before in
+    let p = d .before .before .before .before .args .p in
     λ k. record {
       refusal = 0;
-      «send_stream_id» = p .«send_stream_id» .0;
-      «recv_stream_id» = p .«recv_stream_id» .0;
-      «seq_nro» = p .«seq_nro» .0;
-      «ack_through» = p .«ack_through» .0;
+      «send_stream_id» = p .«send_stream_id»;
+      «recv_stream_id» = p .«recv_stream_id»;
+      «seq_nro» = p .«seq_nro»;
+      «ack_through» = p .«ack_through»;
       flags = p .flags;
       delay = p .delay;
       «max_size» = p .«max_size»;
       «resend_delay» = p .«resend_delay»;
       leftover = p .leftover;
-      nacks = c .before .before .before .of-span .ensures k;
-      destination = c .before .before .of-span2 .ensures k;
-      signature = c .before .of-span3 .ensures k;
-      payload = c .of-span4 .ensures k;
+      nacks = d .before .before .before .of-span .ensures k;
+      destination = d .before .before .of-span2 .ensures k;
+      signature = d .before .of-span3 .ensures k;
+      payload = d .of-span4 .ensures k;
     }
 
 pub of-packet-spec : {M : Type 1} → statement M

@@ -3,7 +3,8 @@ use mathlib.Core.Path.{_≡_, sym, _∙_}
 use mathlib.Core.Bool.{true}
 use borrow.Author.Tests.{not-true, not-false}
 use denote.Ref.{now}
-use Rattle.receiver_state.specs.Rules.{rules, slotFits}
+use Rattle.receiver_state.specs.Answers.{_over_}
+use Rattle.receiver_state.specs.Rules.{rulesOf, slotFits}
 use Rattle.receiver_state.proofs.Facts.{ruled}
 use Rattle.receiver_ack.specs.Acknowledge.{said}
 use Rattle.receiver_ack.proofs.Ways.{ack-broken, ack-unfit, ack-plain}
@@ -13,7 +14,7 @@ use Rattle.receiver_ack.proofs.acknowledge_in.Tie as tie
 
 -- past both tests
 judged : (c : tie.Else2) → let a = c .before .before .before .before .before .before .args in
-    (rules (a .slot) (a .next) (a .highest) (now (a .marks)) ≡ true) × (slotFits (a .slot) ≡ true)
+    (rulesOf (a .h over now (a .marks)) ≡ true) × (slotFits (a .h .slot) ≡ true)
 judged c = (
   sym (c .before .before .before .rules-hold .ensures) ∙ not-false _ (c .before .before .if1 .left),
   sym (c .before .slot-fits .ensures) ∙ not-false _ (c .if2 .left),
@@ -25,7 +26,7 @@ rules-hold-requires c κs = search needs
 returns : tie.Need-returns
 returns c =
     let a = c .before .before .before .before .args in
-    ack-broken (a .slot) (a .next) (a .highest) (now (a .marks)) (a .send) (a .recv) (now (a .output)) (sym (c .before .rules-hold .ensures) ∙ not-true _ (c .if1 .taken))
+    ack-broken (a .h over now (a .marks)) (a .send) (a .recv) (now (a .output)) (sym (c .before .rules-hold .ensures) ∙ not-true _ (c .if1 .taken))
 
 slot-fits-requires : tie.Need-slot-fits-requires
 slot-fits-requires c κs = search needs
@@ -33,13 +34,13 @@ slot-fits-requires c κs = search needs
 returns-2 : tie.Need-returns-2
 returns-2 c =
     let a = c .before .before .before .before .before .before .args in
-    ack-unfit (a .slot) (a .next) (a .highest) (now (a .marks)) (a .send) (a .recv) (now (a .output))
+    ack-unfit (a .h over now (a .marks)) (a .send) (a .recv) (now (a .output))
     (sym (c .before .before .before .rules-hold .ensures) ∙ not-false _ (c .before .before .if1 .left)) (sym (c .before .slot-fits .ensures) ∙ not-true _ (c .if2 .taken))
 
 plain-requires : tie.Need-plain-requires
 plain-requires c κs =
     let s = c .before .before .before .before .before .before .before in
-    let r = ruled (s .args .slot) (s .args .next) (s .args .highest) (now (s .args .marks)) (judged (c .before) .0) in
+    let r = ruled (s .args .h over now (s .args .marks)) (judged (c .before) .0) in
     (s .pre, r .far, r .last)
 
 same-length : tie.Need-same-length
@@ -51,7 +52,7 @@ returns-3 c =
     let e = p .before .before in
     let a = e .before .before .before .before .before .before .args in
     let j = judged e in
-    ack-plain (a .slot) (a .next) (a .highest) (now (a .marks)) (a .send) (a .recv) (now (a .output)) (j .0) (j .1) (said (p .plain .result)) _ (p .plain .ensures .0) (p .plain .ensures .1)
+    ack-plain (a .h over now (a .marks)) (a .send) (a .recv) (now (a .output)) (j .0) (j .1) (said (p .plain .result)) _ (p .plain .ensures .0) (p .plain .ensures .1)
 
 pub acknowledge-in-spec : {M : Type 1} → statement M
 acknowledge-in-spec =

@@ -11,10 +11,10 @@ use Rattle.receiver_ack.proofs.list_missing.Statement.{statement}
 use Rattle.receiver_ack.proofs.list_missing.Tie as tie
 
 abbrev Inv-loop : tie.InvT-loop
-Inv-loop next highest marks missing₀ count₀ number₀ missing count number = Listed (notHeld marks) next highest missing₀ missing count number
+Inv-loop marks missing₀ count₀ number₀ last missing count number = Listed (notHeld marks) number₀ last missing₀ missing count number
 
 abbrev μ-loop : tie.MeasureT-loop
-μ-loop next highest marks missing₀ count₀ number₀ missing count number = highest + 1 - number
+μ-loop marks missing₀ count₀ number₀ last missing count number = last + 1 - number
 
 loop-holds : tie.Need-loop-holds Inv-loop μ-loop
 loop-holds c = list-start _ _ _ _
@@ -50,15 +50,15 @@ loop-again c =
     let l = h .loop in
     let test = notHeld (now (a .marks)) in
     ⊎-elim
-    (λ w. rw (w .1, w .2) (list-found test (a .next) (a .highest) (now (a .missing)) (l .missing) (l .count) (l .number) (l .inv) (omega arith) (eq-eqb _ _ (w .0 .taken)) (omega arith)))
-    (λ w. rw (w .1, w .2) (list-passed test (a .next) (a .highest) (now (a .missing)) (l .missing) (l .count) (l .number) (l .inv) (omega arith) (ne-eqb _ _ (w .0 .left))))
+    (λ w. rw (w .1, w .2) (list-found test (a .next .0) (a .highest .0) (now (a .missing)) (l .missing) (l .count) (l .number) (l .inv) (omega arith) (eq-eqb _ _ (w .0 .taken)) (omega arith)))
+    (λ w. rw (w .1, w .2) (list-passed test (a .next .0) (a .highest .0) (now (a .missing)) (l .missing) (l .count) (l .number) (l .inv) (omega arith) (ne-eqb _ _ (w .0 .left))))
     (c .if1 .came)
 
 returns : tie.Need-returns Inv-loop μ-loop
 returns c =
     let h = c .before in
     let a = h .before .args in
-    list-end (a .next) (a .highest) (now (a .marks)) (now (a .missing)) (h .loop .missing) (h .loop .count) (h .loop .number) (h .loop .inv) (c .loop-test .left)
+    list-end (a .next .0) (a .highest .0) (now (a .marks)) (now (a .missing)) (h .loop .missing) (h .loop .count) (h .loop .number) (h .loop .inv) (c .loop-test .left)
 
 pub list-missing-spec : {M : Type 1} → statement M
 list-missing-spec =

@@ -12,11 +12,11 @@ use Rattle.receiver_ack.proofs.plain.Tie as tie
 
 -- the NACKs, which the table has at its front
 nacks : (g : tie.After-fields) → let a = g .before .before .before .before .args in
-    (take (g .fields .result .nacks) (g .fields .last .1 .1 .1 .0) ≡ nacksFrom (a .next) (a .highest) (now (a .marks)))
+    (take (g .fields .result .nacks) (g .fields .last .1 .1 .1 .0) ≡ nacksFrom (a .next .0) (a .highest .0) (now (a .marks)))
     × (g .fields .result .nacks ≤ length (g .fields .last .1 .1 .1 .0))
 nacks g =
     let a = g .before .before .before .before .args in
-    nacks-front (a .next) (a .highest) (now (a .marks)) _ (g .fields .result) (g .fields .last .1 .1 .1 .0) (g .fields .ensures .0) (g .fields .ensures .1)
+    nacks-front (a .next .0) (a .highest .0) (now (a .marks)) _ (g .fields .result) (g .fields .last .1 .1 .1 .0) (g .fields .ensures .0) (g .fields .ensures .1)
 
 fields-requires : tie.Need-fields-requires
 fields-requires c κs = search needs
@@ -53,7 +53,7 @@ returns c =
     let w = c .before .before .before .before .before in
     let g = w .before .before .before .before .before .before .before in
     let a = g .before .before .before .before .args in
-    plain-refused (a .next) (a .highest) (now (a .marks)) (a .send) (a .recv) (g .fields .result) (take (g .fields .result .nacks) (g .fields .last .1 .1 .1 .0))
+    plain-refused (a .next .0) (a .highest .0) (now (a .marks)) (a .send) (a .recv) (g .fields .result) (take (g .fields .result .nacks) (g .fields .last .1 .1 .1 .0))
     (now (a .output)) (w .write .last .1 .1 .1 .1 .1 .0) (w .write .result) (g .fields .ensures .0) (nacks g .0) (w .write .ensures .0) (w .write .ensures .1) _ (c .before .why .given .1)
 
 same-length-2 : tie.Need-same-length-2
@@ -64,7 +64,7 @@ returns-2 c =
     let w = c .before .before .before .before .before in
     let g = w .before .before .before .before .before .before .before in
     let a = g .before .before .before .before .args in
-    plain-written (a .next) (a .highest) (now (a .marks)) (a .send) (a .recv) (g .fields .result) (take (g .fields .result .nacks) (g .fields .last .1 .1 .1 .0))
+    plain-written (a .next .0) (a .highest .0) (now (a .marks)) (a .send) (a .recv) (g .fields .result) (take (g .fields .result .nacks) (g .fields .last .1 .1 .1 .0))
     (now (a .output)) (w .write .last .1 .1 .1 .1 .1 .0) (w .write .result) (g .fields .ensures .0) (nacks g .0) (w .write .ensures .0) (w .write .ensures .1) _ _ (c .before .length .given .1)
 
 pub plain-spec : {M : Type 1} → statement M

@@ -1,7 +1,5 @@
 -- `receiver_calls::accept` meets its contract: the state is taken apart, given to `accept_in`, and put together again. Assumes nothing.
-use mathlib.Core.Path.{ap}
 use borrow.Author.Needs.{needs}
-use Rattle.receiver_calls.specs.Accept.{acceptLeaves}
 use Rattle.receiver_calls.proofs.accept.Statement.{statement}
 use Rattle.receiver_calls.proofs.accept.Tie as tie
 
@@ -12,9 +10,7 @@ same-length : tie.Need-same-length
 same-length c = search needs
 
 returns : tie.Need-returns
-returns c =
-    let a = c .before .before .before .before .before .before .before .args in
-    ap (acceptLeaves (a .r)) (c .before .before .accept-in .ensures)
+returns c = c .before .before .before .accept-in .ensures
 
 pub accept-spec : {M : Type 1} → statement M
 accept-spec = tie.close (tie.spec accept-in-requires same-length returns)

@@ -5,6 +5,7 @@ use native.Mathlib.Omega.{arith}
 use lib.ListN.{length}
 use denote.Ref.{now}
 use Rattle.terms.specs.Answers.{values, said}
+use Rattle.receiver_state.specs.Answers.{_over_}
 use Rattle.receiver_calls.specs.Accept.{acceptSaid}
 use Rattle.receiver_calls.proofs.Outcomes.{accept-kept, accept-made, Passed, passed, slot-in}
 use borrow.Author.Needs.{needs}
@@ -13,12 +14,12 @@ use Rattle.receiver_calls.proofs.accept_in.Tie as tie
 
 -- what holds where the answer is done
 done : (c : tie.After-enum-told2) → let a = c .before .before .before .before .before .before .before .args in
-    acceptSaid (a .slot) (a .next) (a .highest) (now (a .marks)) (a .number) (length (now (a .payload))) (length (now (a .store))) ≡ values []
+    acceptSaid (a .h over now (a .marks)) (a .number) (length (now (a .payload))) (length (now (a .store))) ≡ values []
 done c = sym (c .before .before .judge-accept .ensures) ∙ ap said (c .enum-told2 .given .1)
 
 ok : (c : tie.After-enum-told2) → let a = c .before .before .before .before .before .before .before .args in
-    Passed (a .slot) (a .next) (a .highest) (now (a .marks)) (a .number) (length (now (a .payload))) (length (now (a .store))) []
-ok c = passed _ _ _ _ _ _ _ _ (done c)
+    Passed (a .h over now (a .marks)) (a .number) (length (now (a .payload))) (length (now (a .store))) []
+ok c = passed _ _ _ _ _ (done c)
 
 judge-accept-requires : tie.Need-judge-accept-requires
 judge-accept-requires c κs = search needs
@@ -32,23 +33,26 @@ enum-told-2 c = search needs
 cast-at : tie.Need-cast-at
 cast-at c = search needs
 
+cast-from : tie.Need-cast-from
+cast-from c = search needs
+
 mul-from : tie.Need-mul-from
 mul-from c =
     let p = ok c in
     let a = c .before .before .before .before .before .before .before .args in
-    omega (arith, slot-in (a .slot) (a .number) (length (now (a .store))) (p .sizes .store))
+    omega (arith, slot-in (a .h .slot) (a .number .0) (length (now (a .store))) (p .sizes .store))
 
 sub-put-bytes : tie.Need-sub-put-bytes
 sub-put-bytes c =
     let p = ok c in
     let a = c .before .before .before .before .before .before .before .args in
-    omega (arith, slot-in (a .slot) (a .number) (length (now (a .store))) (p .sizes .store))
+    omega (arith, slot-in (a .h .slot) (a .number .0) (length (now (a .store))) (p .sizes .store))
 
 part-put-bytes-start : tie.Need-part-put-bytes-start
 part-put-bytes-start c =
     let p = ok c in
     let a = c .before .before .before .before .before .before .before .args in
-    omega (arith, slot-in (a .slot) (a .number) (length (now (a .store))) (p .sizes .store))
+    omega (arith, slot-in (a .h .slot) (a .number .0) (length (now (a .store))) (p .sizes .store))
 
 part-put-bytes-end : tie.Need-part-put-bytes-end
 part-put-bytes-end c = search needs
@@ -57,7 +61,7 @@ put-bytes-requires : tie.Need-put-bytes-requires
 put-bytes-requires c κs =
     let p = ok (c .before) in
     let a = c .before .before .before .before .before .before .before .before .args in
-    omega (arith, slot-in (a .slot) (a .number) (length (now (a .store))) (p .sizes .store))
+    omega (arith, slot-in (a .h .slot) (a .number .0) (length (now (a .store))) (p .sizes .store))
 
 add-marks : tie.Need-add-marks
 add-marks c = search needs
@@ -73,14 +77,14 @@ mul-marks c = search needs
 element-write-marks : tie.Need-element-write-marks
 element-write-marks c = search needs
 
-larger-requires : tie.Need-larger-requires
-larger-requires c κs = search needs
+hold-requires : tie.Need-hold-requires
+hold-requires c κs = search needs
 
 returns : tie.Need-returns
 returns c =
     let j = c .before .before in
     let a = j .before .before .before .before .before .args in
-    accept-kept (a .slot) (a .next) (a .highest) (now (a .marks)) (a .number) (now (a .payload)) (now (a .store)) (j .judge-accept .result) (j .judge-accept .ensures) _ (c .enum-told .given .1)
+    accept-kept (a .h over now (a .marks)) (a .number) (now (a .payload)) (now (a .store)) (j .judge-accept .result) (j .judge-accept .ensures) _ (c .enum-told .given .1)
 
 same-length : tie.Need-same-length
 same-length c = search needs
@@ -90,8 +94,8 @@ returns-2 c =
     let d = c .before .before .before .before .before in
     let j = d .before .before in
     let a = j .before .before .before .before .before .args in
-    accept-made (a .slot) (a .next) (a .highest) (now (a .marks)) (a .number) (now (a .payload)) (now (a .store)) (j .judge-accept .result) (j .judge-accept .ensures)
-    (d .enum-told2 .given .1) (c .larger .result) (c .larger .ensures) (c .before .before .before .put-bytes .last .0) (c .before .before .before .put-bytes .ensures)
+    accept-made (a .h over now (a .marks)) (a .number) (now (a .payload)) (now (a .store)) (j .judge-accept .result) (j .judge-accept .ensures)
+    (d .enum-told2 .given .1) (c .hold .result) (c .hold .ensures) (c .before .before .before .put-bytes .last .0) (c .before .before .before .put-bytes .ensures)
 
 pub accept-in-spec : {M : Type 1} → statement M
 accept-in-spec =
@@ -101,6 +105,7 @@ accept-in-spec =
     enum-told
     enum-told-2
     cast-at
+    cast-from
     mul-from
     sub-put-bytes
     part-put-bytes-start
@@ -110,7 +115,7 @@ accept-in-spec =
     cast-marks
     mul-marks
     element-write-marks
-    larger-requires
+    hold-requires
     returns
     same-length
     returns-2)

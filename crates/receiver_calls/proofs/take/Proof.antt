@@ -1,7 +1,5 @@
 -- `receiver_calls::take` meets its contract: the state is taken apart, given to `take_in`, and put together again. Assumes nothing.
-use mathlib.Core.Path.{ap}
 use borrow.Author.Needs.{needs}
-use Rattle.receiver_calls.specs.Take.{takeLeaves}
 use Rattle.receiver_calls.proofs.take.Statement.{statement}
 use Rattle.receiver_calls.proofs.take.Tie as tie
 
@@ -12,9 +10,7 @@ same-length : tie.Need-same-length
 same-length c = search needs
 
 returns : tie.Need-returns
-returns c =
-    let a = c .before .before .before .before .before .before .before .args in
-    ap (takeLeaves (a .r)) (c .before .before .take-in .ensures)
+returns c = c .before .before .before .take-in .ensures
 
 pub take-spec : {M : Type 1} → statement M
 take-spec = tie.close (tie.spec take-in-requires same-length returns)

@@ -5,8 +5,9 @@ use native.Mathlib.Omega.{arith}
 use lib.ListN.{length, length-take, length-drop}
 use denote.Ref.{now}
 use Rattle.terms.specs.Answers.{values, saidOf}
-use Rattle.receiver_state.specs.Slots.{lengthOf, markOf}
-use Rattle.receiver_calls.specs.Take.{takeSaid}
+use Rattle.receiver_state.specs.Answers.{_over_}
+use Rattle.receiver_state.specs.Slots.{lengthOf}
+use Rattle.receiver_calls.specs.Take.{nextMark, takeSaid}
 use Rattle.receiver_calls.proofs.Outcomes.{take-kept, take-made, Gives, gives, slot-in}
 use borrow.Author.Needs.{needs}
 use Rattle.receiver_calls.proofs.take_in.Statement.{statement}
@@ -14,15 +15,15 @@ use Rattle.receiver_calls.proofs.take_in.Tie as tie
 
 -- what holds where the answer is a count
 given : (c : tie.After-answer) → let a = c .before .before .before .before .before .before .before .args in
-    takeSaid (a .slot) (a .next) (a .highest) (now (a .marks)) (length (now (a .store))) (length (now (a .output))) ≡ values (c .answer .given .0 .0 ∷ [])
+    takeSaid (a .h over now (a .marks)) (length (now (a .store))) (length (now (a .output))) ≡ values (c .answer .given .0 .0 ∷ [])
 given c = sym (c .before .before .judge-take .ensures) ∙ ap saidOf (c .answer .given .1)
 
 ok : (c : tie.After-answer) → let a = c .before .before .before .before .before .before .before .args in
-    Gives (a .slot) (a .next) (a .highest) (now (a .marks)) (length (now (a .store))) (length (now (a .output))) (c .answer .given .0 .0 ∷ [])
-ok c = gives _ _ _ _ _ _ _ (c .before .before .before .before .before .before .before .pre) (given c)
+    Gives (a .h over now (a .marks)) (length (now (a .store))) (length (now (a .output))) (c .answer .given .0 .0 ∷ [])
+ok c = gives _ _ _ _ (c .before .before .before .before .before .before .before .pre) (given c)
 
 counted : (c : tie.After-answer) → let a = c .before .before .before .before .before .before .before .args in
-    c .answer .given .0 .0 ≡ lengthOf (markOf (now (a .marks)) (a .next))
+    c .answer .given .0 .0 ≡ lengthOf (nextMark (a .h over now (a .marks)))
 counted c = let e = ok c .is in cc
 
 judge-take-requires : tie.Need-judge-take-requires
@@ -37,17 +38,20 @@ enum-known-answer c = search needs
 cast-at : tie.Need-cast-at
 cast-at c = search needs
 
+cast-from : tie.Need-cast-from
+cast-from c = search needs
+
 mul-from : tie.Need-mul-from
 mul-from c =
     let p = ok (c .before) in
     let a = c .before .before .before .before .before .before .before .before .args in
-    omega (arith, slot-in (a .slot) (a .next) (length (now (a .store))) (p .sizes .store))
+    omega (arith, slot-in (a .h .slot) (a .h .next .0) (length (now (a .store))) (p .sizes .store))
 
 add-end : tie.Need-add-end
 add-end c =
     let p = ok (c .before) in
     let a = c .before .before .before .before .before .before .before .before .args in
-    omega (arith, slot-in (a .slot) (a .next) (length (now (a .store))) (p .sizes .store), counted (c .before))
+    omega (arith, slot-in (a .h .slot) (a .h .next .0) (length (now (a .store))) (p .sizes .store), counted (c .before))
 
 sub-put-bytes : tie.Need-sub-put-bytes
 sub-put-bytes c = search needs
@@ -59,7 +63,7 @@ part-put-bytes-end : tie.Need-part-put-bytes-end
 part-put-bytes-end c =
     let p = ok (c .before .before) in
     let a = c .before .before .before .before .before .before .before .before .before .args in
-    omega (arith, slot-in (a .slot) (a .next) (length (now (a .store))) (p .sizes .store), counted (c .before .before))
+    omega (arith, slot-in (a .h .slot) (a .h .next .0) (length (now (a .store))) (p .sizes .store), counted (c .before .before))
 
 put-bytes-requires : tie.Need-put-bytes-requires
 put-bytes-requires c κs =
@@ -72,8 +76,8 @@ mul-marks c = search needs
 element-write-marks : tie.Need-element-write-marks
 element-write-marks c = search needs
 
-add-t17 : tie.Need-add-t17
-add-t17 c =
+release-requires : tie.Need-release-requires
+release-requires c κs =
     let p = ok (c .before .before .before .before .before .before) in
     omega arith
 
@@ -81,18 +85,18 @@ returns : tie.Need-returns
 returns c =
     let j = c .before .before in
     let a = j .before .before .before .before .before .args in
-    take-kept (a .slot) (a .next) (a .highest) (now (a .marks)) (now (a .store)) (now (a .output)) (j .judge-take .result) (j .judge-take .ensures) _ (c .enum-told .given .1)
+    take-kept (a .h over now (a .marks)) (now (a .store)) (now (a .output)) (j .judge-take .result) (j .judge-take .ensures) _ (c .enum-told .given .1)
 
 same-length : tie.Need-same-length
 same-length c = search needs
 
 returns-2 : tie.Need-returns-2
 returns-2 c =
-    let d = c .before .before .before .before .before .before in
+    let d = c .before .before .before .before .before .before .before in
     let a = d .before .before .before .before .before .before .before .args in
-    take-made (a .slot) (a .next) (a .highest) (now (a .marks)) (now (a .store)) (now (a .output)) (d .answer .given .0 .0) (given d) (counted d)
-    (c .before .before .put-bytes .last .0)
-    (c .before .before .put-bytes .ensures)
+    take-made (a .h over now (a .marks)) (now (a .store)) (now (a .output)) (d .answer .given .0 .0) (given d) (counted d) (c .release .result) (c .release .ensures)
+    (c .before .before .before .put-bytes .last .0)
+    (c .before .before .before .put-bytes .ensures)
 
 pub take-in-spec : {M : Type 1} → statement M
 take-in-spec =
@@ -102,6 +106,7 @@ take-in-spec =
     enum-told
     enum-known-answer
     cast-at
+    cast-from
     mul-from
     add-end
     sub-put-bytes
@@ -110,7 +115,7 @@ take-in-spec =
     put-bytes-requires
     mul-marks
     element-write-marks
-    add-t17
+    release-requires
     returns
     same-length
     returns-2)

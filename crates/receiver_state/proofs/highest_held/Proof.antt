@@ -21,7 +21,7 @@ shared-slice-read-result : tie.Need-shared-slice-read-result
 shared-slice-read-result c = search needs
 
 returns-2 : tie.Need-returns-2
-returns-2 c = simp (ne-eqb _ _ (c .before .if1 .left), or-false)
+returns-2 c = simp (ne-eqb _ _ (c .before .before .if1 .left), or-false)
 
 pub highest-held-spec : {M : Type 1} → statement M
 highest-held-spec =

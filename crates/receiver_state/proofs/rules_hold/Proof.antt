@@ -9,36 +9,39 @@ use Rattle.receiver_state.proofs.rules_hold.Statement.{statement}
 use Rattle.receiver_state.proofs.rules_hold.Tie as tie
 
 returns : tie.Need-returns
-returns c = refuted _ (λ t. let r = ruled _ _ _ _ t in omega arith)
+returns c = refuted _ (λ t. let r = ruled _ t in omega arith)
 
 returns-2 : tie.Need-returns-2
-returns-2 c = refuted _ (λ t. let r = ruled _ _ _ _ t in omega arith)
+returns-2 c = refuted _ (λ t. let r = ruled _ t in omega arith)
 
 returns-3 : tie.Need-returns-3
-returns-3 c = refuted _ (λ t. let r = ruled _ _ _ _ t in omega arith)
-
-add-if4 : tie.Need-add-if4
-add-if4 c = search needs
-
-sub-if4 : tie.Need-sub-if4
-sub-if4 c = search needs
+returns-3 c = refuted _ (λ t. let r = ruled _ t in omega arith)
 
 returns-4 : tie.Need-returns-4
-returns-4 c = refuted _ (λ t. let r = ruled _ _ _ _ t in omega arith)
+returns-4 c = refuted _ (λ t. let r = ruled _ t in omega arith)
+
+add-if5 : tie.Need-add-if5
+add-if5 c = search needs
+
+sub-if5 : tie.Need-sub-if5
+sub-if5 c = search needs
+
+returns-5 : tie.Need-returns-5
+returns-5 c = refuted _ (λ t. let r = ruled _ t in omega arith)
 
 highest-held-requires : tie.Need-highest-held-requires
 highest-held-requires c κs = search needs
 
-returns-5 : tie.Need-returns-5
-returns-5 c = held-broken _ _ _ _ (sym (c .before .highest-held .ensures) ∙ not-true _ (c .if5 .taken))
+returns-6 : tie.Need-returns-6
+returns-6 c = held-broken _ (sym (c .before .highest-held .ensures) ∙ not-true _ (c .if6 .taken))
 
 slots-hold-requires : tie.Need-slots-hold-requires
 slots-hold-requires c κs = search needs
 
-returns-6 : tie.Need-returns-6
-returns-6 c =
+returns-7 : tie.Need-returns-7
+returns-7 c =
     c .slots-hold .ensures
-    ∙ sym (rules-left _ _ _ _ (omega arith) (omega arith) (omega arith) (omega arith) (sym (c .before .before .highest-held .ensures) ∙ not-false _ (c .before .if5 .left)))
+    ∙ sym (rules-left _ (omega arith) (omega arith) (omega arith) (omega arith) (omega arith) (sym (c .before .before .highest-held .ensures) ∙ not-false _ (c .before .if6 .left)))
 
 pub rules-hold-spec : {M : Type 1} → statement M
 rules-hold-spec =
@@ -47,10 +50,11 @@ rules-hold-spec =
     returns
     returns-2
     returns-3
-    add-if4
-    sub-if4
     returns-4
-    highest-held-requires
+    add-if5
+    sub-if5
     returns-5
+    highest-held-requires
+    returns-6
     slots-hold-requires
-    returns-6)
+    returns-7)

@@ -29,11 +29,11 @@ banded-requires c κs = search needs
 
 returns : tie.Need-returns
 returns c =
-    let s = c .before .before .before .before in
+    let s = c .before .before .before .before .before .before .before in
     c .banded .ensures
     ∙ rw (c .before .before .top-mark .ensures)
-    (one-run (s .args .slot) (s .args .next) (s .args .highest) (now (s .args .marks)) (s .pre .0)
-    (λ k. c .before .before .before .shared-slice-known .given k .fits) (s .pre .1) (s .pre .2) _ refl (c .before .if1 .taken))
+    (one-run (s .args .slot) (s .args .next .0) (s .args .highest .0) (now (s .args .marks)) (s .pre .0)
+    (λ k. c .before .before .before .before .before .before .shared-slice-known .given k .fits) (s .pre .1) (s .pre .2) _ refl (c .before .if1 .taken))
 
 sub-banded : tie.Need-sub-banded
 sub-banded c = search needs
@@ -43,11 +43,11 @@ banded-requires-2 c κs = search needs
 
 returns-2 : tie.Need-returns-2
 returns-2 c =
-    let s = c .before .before .before .before in
+    let s = c .before .before .before .before .before .before .before in
     c .banded2 .ensures
     ∙ rw (c .before .before .top-mark .ensures)
-    (two-runs (s .args .slot) (s .args .next) (s .args .highest) (now (s .args .marks)) (s .pre .0)
-    (λ k. c .before .before .before .shared-slice-known .given k .fits) (s .pre .1) (s .pre .2) _ refl (c .before .if1 .left))
+    (two-runs (s .args .slot) (s .args .next .0) (s .args .highest .0) (now (s .args .marks)) (s .pre .0)
+    (λ k. c .before .before .before .before .before .before .shared-slice-known .given k .fits) (s .pre .1) (s .pre .2) _ refl (c .before .if1 .left))
 
 pub slots-hold-spec : {M : Type 1} → statement M
 slots-hold-spec =

@@ -24,12 +24,12 @@ empty-requires-2 c κs = search needs
 returns-2 : tie.Need-returns-2
 unfolding startSaid
 returns-2 c =
-    let e = sym (c .before .before .before .sizes-fit .ensures) ∙ not-false _ (c .before .before .if1 .left) in
+    let e = sym (c .before .before .before .before .sizes-fit .ensures) ∙ not-false _ (c .before .before .before .if1 .left) in
     let f = eq-eqb _ _ (c .before .if2 .taken) in
     rw (c .empty2 .ensures) (simp (e, f))
 
-add-empty : tie.Need-add-empty
-add-empty c = search needs
+add-t16 : tie.Need-add-t16
+add-t16 c = search needs
 
 empty-requires-3 : tie.Need-empty-requires-3
 empty-requires-3 c κs = search needs
@@ -37,8 +37,8 @@ empty-requires-3 c κs = search needs
 returns-3 : tie.Need-returns-3
 unfolding startSaid
 returns-3 c =
-    let e = sym (c .before .before .before .sizes-fit .ensures) ∙ not-false _ (c .before .before .if1 .left) in
-    let f = ne-eqb _ _ (c .before .if2 .left) in
+    let e = sym (c .before .before .before .before .before .sizes-fit .ensures) ∙ not-false _ (c .before .before .before .before .if1 .left) in
+    let f = ne-eqb _ _ (c .before .before .if2 .left) in
     rw (c .empty3 .ensures) (simp (e, f))
 
 pub start-spec : {M : Type 1} → statement M
@@ -50,6 +50,6 @@ start-spec =
     returns
     empty-requires-2
     returns-2
-    add-empty
+    add-t16
     empty-requires-3
     returns-3)

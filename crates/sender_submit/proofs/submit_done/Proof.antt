@@ -16,16 +16,16 @@ table : (c : tie.Start) → length (c .args .t2 .marks) ≡ 512
 table c = search needs
 
 -- the NACKs, which the table of the missing numbers has at its front
-nacks : (g : tie.After-fields) → let a = g .before .before .before .before .before .before .before .args in
+nacks : (g : tie.After-fields) → let a = g .before .before .before .before .before .before .before .before .before .args in
     (take (g .fields .result .nacks) (g .fields .last .1 .1 .1 .0) ≡ ackNacksOf (a .t2)) × (g .fields .result .nacks ≤ length (g .fields .last .1 .1 .1 .0))
 nacks g =
-    let a = g .before .before .before .before .before .before .before .args in
-    nacks-front (a .t2 .next .0) (a .t2 .highest .0) (a .t2 .marks) _ (g .fields .result) (g .fields .last .1 .1 .1 .0) (g .fields .ensures .0) (g .fields .ensures .1)
+    let a = g .before .before .before .before .before .before .before .before .before .args in
+    nacks-front (a .t2 .head .next .0) (a .t2 .head .highest .0) (a .t2 .marks) _ (g .fields .result) (g .fields .last .1 .1 .1 .0) (g .fields .ensures .0) (g .fields .ensures .1)
 
 fields-requires : tie.Need-fields-requires
 fields-requires c κs =
-    let s = c .before .before .before .before .before .before in
-    let r = ruled (s .args .t2 .slot) (s .args .t2 .next .0) (s .args .t2 .highest .0) (s .args .t2 .marks) (s .pre .0) in
+    let s = c .before .before .before .before .before .before .before .before in
+    let r = ruled (s .args .t2) (s .pre .0) in
     (table s, search needs, r .far, r .last)
 
 array-share-prefix-missing : tie.Need-array-share-prefix-missing
@@ -37,8 +37,8 @@ slice-aggregate-store-all c = sym (length-take-le _ _ (nacks (c .before) .1))
 store-all-requires : tie.Need-store-all-requires
 store-all-requires c κs =
     let g = c .before .before in
-    let s = g .before .before .before .before .before .before .before in
-    (rw (nacks g .0, g .fields .ensures .0) (acking-of (s .args .t2 .next .0) (s .args .t2 .highest .0) (s .args .t2 .marks)), s .pre .1)
+    let s = g .before .before .before .before .before .before .before .before .before in
+    (rw (nacks g .0, g .fields .ensures .0) (acking-of (s .args .t2 .head .next .0) (s .args .t2 .head .highest .0) (s .args .t2 .marks)), s .pre .1)
 
 same-length : tie.Need-same-length
 same-length c = search needs
@@ -46,7 +46,7 @@ same-length c = search needs
 returns : tie.Need-returns
 returns c =
     let g = c .before .before .before .before .before in
-    let a = g .before .before .before .before .before .before .before .args in
+    let a = g .before .before .before .before .before .before .before .before .before .args in
     stored-of (a .t2) (a .send) (a .recv) (g .fields .result) _ (g .fields .ensures .0) (nacks g .0) (a .packets) (now (a .bytes)) (a .s) (now (a .store)) _ (c .before .before .store-all .ensures)
 
 pub submit-done-spec : {M : Type 1} → statement M

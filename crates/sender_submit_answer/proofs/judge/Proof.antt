@@ -23,7 +23,7 @@ use Rattle.sender_submit_answer.proofs.judge.Tie as tie
 
 -- past the first two tests, and past the next two
 judged : (c : tie.Else2) → let a = c .before .before .before .before .before .args in
-    ((rules (a .s) && rulesOf (a .r)) ≡ true) × ((sizesFit (a .s .chunk) (a .s .count) (a .store-length) && slotFits (a .r .slot)) ≡ true)
+    ((rules (a .s) && rulesOf (a .r)) ≡ true) × ((sizesFit (a .s .chunk) (a .s .count) (a .store-length) && slotFits (a .r .head .slot)) ≡ true)
 judged c = (
   sym (c .before .before .before .both-keep .ensures) ∙ not-false _ (c .before .before .if1 .left),
   sym (c .before .both-fit .ensures) ∙ not-false _ (c .if2 .left),
@@ -37,7 +37,7 @@ fair c = (
 )
 
 fits : (c : tie.Else2) → let a = c .before .before .before .before .before .args in Sized (a .s .chunk) (a .s .count) (a .store-length)
-fits c = let a = c .before .before .before .before .before .args in sized _ _ _ (and-left (sizesFit (a .s .chunk) (a .s .count) (a .store-length)) (slotFits (a .r .slot)) (judged c .1))
+fits c = let a = c .before .before .before .before .before .args in sized _ _ _ (and-left (sizesFit (a .s .chunk) (a .s .count) (a .store-length)) (slotFits (a .r .head .slot)) (judged c .1))
 
 table : (c : tie.Start) → length (c .args .s .marks) ≡ 192
 table c = search needs
@@ -62,7 +62,7 @@ returns-2 c =
     simp (v, sym (c .before .both-fit .ensures) ∙ not-true _ (c .if2 .taken))
 
 slice-aggregate-count-of : tie.Need-slice-aggregate-count-of
-slice-aggregate-count-of c = search needs
+slice-aggregate-count-of c = sym (table (c .before .before .before .before .before .before))
 
 count-of-requires : tie.Need-count-of-requires
 count-of-requires c κs = search needs
