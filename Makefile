@@ -4,7 +4,7 @@ SOAK_COUNT ?= 5000000
 # What the comparison asks: `drive`, or the model of document 01.
 WHO ?= drive
 # Its topics, the longest first.
-TOPICS := sender model timer write read serial receive ack vectors slips
+TOPICS := sender model timer smooth write read serial receive ack vectors slips
 AT_ONCE := --no-print-directory --jobs=2 --output-sync
 
 .PHONY: demo test links oracle proved host stored lamps joined cuts compare expected soak wrong

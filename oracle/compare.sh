@@ -16,6 +16,7 @@ read) cases=100000 ;;
 write) cases=120000 ;;
 receive | ack | sender) cases=20000 ;;
 serial) cases=2000 ;;
+smooth) cases=1000066 ;;
 timer) cases=1000261 ;;
 slips | vectors) cases='' ;;
 *) exit 2 ;;

@@ -44,6 +44,7 @@ pub enum Call {
     Write { fields: Fields, output: Buffer },
     Sample { before: Option<(u32, u32)>, sample: u32 },
     Grown(u32),
+    Smooth { old: u64, sample: u64 },
     Fallen(u32),
     Start { s: u32, slot: u32, store: Buffer },
     SetReceiver(Receiver),
@@ -79,6 +80,7 @@ impl Call {
                 call(b'x').u8(before.is_some().into()).u32(rtt).u32(deviation).u32(*sample)
             }
             Self::Grown(window) => call(b'g').u32(*window),
+            Self::Smooth { old, sample } => call(b'm').u64(*old).u64(*sample),
             Self::Fallen(window) => call(b'f').u32(*window),
             Self::Start { s, slot, store } => call(b'S').u32(*s).u32(*slot).buffer(store),
             Self::SetReceiver(receiver) => receiver_of(receiver),

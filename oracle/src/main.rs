@@ -16,6 +16,7 @@ mod samples;
 mod send;
 mod serial;
 mod slips;
+mod smooth;
 mod stand_in;
 mod step;
 mod timer;
@@ -55,6 +56,10 @@ fn main() -> ExitCode {
             joined::simulate(seed, moves)
         }
         ["serial", "tell"] => tell_line().is_ok(),
+        ["smooth", "calls", engine, count] => {
+            let Ok(count) = count.parse() else { return usage() };
+            stdout().write_all(&smooth::calls(engine, count)).is_ok()
+        }
         [topic, action @ ("gen" | "check"), seed, count] => {
             let (Ok(seed), Ok(count)) = (seed.parse(), count.parse()) else { return usage() };
             match topic {
@@ -65,6 +70,7 @@ fn main() -> ExitCode {
                 "ack" => run::<ack::Acks>(topic, action, seed, count),
                 "sender" => run::<send::Run>(topic, action, seed, count),
                 "serial" => run::<serial::Cuts>(topic, action, seed, count),
+                "smooth" => run::<smooth::Case>(topic, action, seed, count),
                 "model" if action == "gen" => run::<hostile::Run>(topic, action, seed, count),
                 "model" => {
                     model::hand::check();
@@ -83,11 +89,12 @@ fn main() -> ExitCode {
     }
 }
 
-const USAGE: &str = "usage: oracle read|write|receive|ack|timer|sender|serial|model gen|check SEED COUNT
+const USAGE: &str = "usage: oracle read|write|receive|ack|timer|sender|serial|smooth|model gen|check SEED COUNT
        oracle slips|vectors gen|check
        oracle model answer
        oracle joined SEED MOVES
        oracle serial tell
+       oracle smooth calls whole|float|none COUNT
        oracle lamps";
 
 fn usage() -> ExitCode {

@@ -14,7 +14,7 @@ use program_script::registers::Store;
 fn topic(letter: u8) -> u8 {
     match letter {
         b'r' | b'd' | b'w' => 0,
-        b'x' | b'g' | b'f' => 1,
+        b'x' | b'g' | b'f' | b'm' => 1,
         b'S' | b'R' | b'B' | b'a' | b't' | b'k' | b'y' => 2,
         b'u' | b's' | b'h' => 3,
         b'L' | b'I' | b'F' | b'i' => 4,
@@ -79,15 +79,7 @@ fn steps(
         if letter > 255 {
             return;
         }
-        if !step(
-            bank,
-            given,
-            out,
-            received,
-            sent,
-            line,
-            (letter % 256) as u8,
-        ) {
+        if !step(bank, given, out, received, sent, line, (letter % 256) as u8) {
             return;
         }
         turns -= 1;

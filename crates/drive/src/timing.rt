@@ -1,7 +1,8 @@
-// The calls 'x', 'g' and 'f': a sample of the round-trip time, and the window's two steps.
+// The calls 'x', 'g', 'f' and 'm': a sample of the round-trip time, the window's two steps, and the Rust's own smoothing.
 use program_script::registers;
 use program_script::registers::Bank;
 use timer::Timing;
+use timer_float::Smoothed;
 
 // The timing that the call gives: unsampled, or sampled with two numbers.
 fn given(bank: &Bank) -> Timing {
@@ -28,10 +29,20 @@ fn sample(bank: &mut Bank) {
     }
 }
 
+fn smooth(bank: &mut Bank) {
+    let old = registers::value(bank, 0);
+    let sample = registers::value(bank, 1);
+    match timer_float::smooth_float(old, sample) {
+        Smoothed::Time(time) => registers::answer2(bank, 0, time),
+        Smoothed::Refused(r) => registers::answer2(bank, r.number() as u64, 0),
+    }
+}
+
 pub fn call(bank: &mut Bank, letter: u8) {
     let window = registers::word32(bank, 0);
     match letter {
         b'x' => sample(bank),
+        b'm' => smooth(bank),
         b'g' => registers::answer(bank, timer::window_grown(window) as u64),
         _ => registers::answer(bank, timer::window_fallen(window) as u64),
     }

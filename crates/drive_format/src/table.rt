@@ -33,7 +33,8 @@ pub fn at(i: usize) -> u8 {
         L line y L\n\
         I reader 84488 L\n\
         F buffer y +\n\
-        i feed b L+\n";
+        i feed b L+\n\
+        m smooth 88 \n";
     if i < rows.len() { rows[i] } else { 0 }
 }
 

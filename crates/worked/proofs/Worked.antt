@@ -11,6 +11,8 @@ use Rattle.receiver_ack.specs.Fields.{fieldsFrom, nacksFrom}
 use Rattle.receiver_ack.specs.Acknowledge.{plainAck, acknowledgeSaid, acknowledgeOf}
 use Rattle.timer.specs.Timer.{sampledOf, rtoOf, timingFits}
 use Rattle.timer.specs.Window.{grownOf, fallenOf}
+use Rattle.timer_float.specs.Float.{mixOf, cutOf, floatOf, smoothSaid}
+use lib.Ieee.{toUnsigned, sub, add, mul, rem, ofInt, ofBits}
 use Rattle.sender_state.specs.Rules as P
 use Rattle.sender_state.specs.Numbers.{run}
 use Rattle.sender_state.specs.Rules.{clockWrong}
@@ -19,5 +21,5 @@ use Rattle.worked.specs.Lines.{holds, allHold}
 use Rattle.worked.specs.Table.{table}
 
 pub worked : allHold table ≡ true
-unfolding holds startSaid acceptSaid entering acceptOf takeSaid passing takeOf R.rulesOf R.slotFits R.sizesFit packetBytes missingFrom fieldsFrom nacksFrom plainAck acknowledgeSaid acknowledgeOf sampledOf rtoOf timingFits grownOf fallenOf P.rules P.countsFit P.timerFits run clockWrong isDue resendRefusal resendOf
+unfolding holds startSaid acceptSaid entering acceptOf takeSaid passing takeOf R.rulesOf R.slotFits R.sizesFit packetBytes missingFrom fieldsFrom nacksFrom plainAck acknowledgeSaid acknowledgeOf sampledOf rtoOf timingFits grownOf fallenOf smoothSaid floatOf mixOf cutOf toUnsigned sub add mul rem ofInt ofBits P.rules P.countsFit P.timerFits run clockWrong isDue resendRefusal resendOf
 worked = refl

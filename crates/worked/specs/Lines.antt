@@ -7,10 +7,11 @@ use lib.ListN.{length, replicate}
 use Rattle.terms.specs.Answers.{Said, refusal, values}
 use Rattle.receiver_runs.specs.Runs.{Call, Event, begun, eventsOf}
 use Rattle.receiver_runs.specs.History.{Piece, takenIn}
-use Rattle.timer.specs.Timer.{sampledOf, rtoOf}
+use Rattle.timer.specs.Timer.{smoothedOf, sampledOf, rtoOf}
 use Rattle.timer.specs.Window.{grownOf}
 use Rattle.timer.specs.declared.Timing.{Timing}
 use Rattle.timer.specs.declared.Timing.the-variants as G
+use Rattle.timer_float.specs.Float.{floatOf, smoothSaid}
 use Rattle.sender_state.specs.Places.{stateOf}
 use Rattle.sender_state.specs.Answers.{Outcome}
 use Rattle.sender_state.specs.declared.Sender.{Sender}
@@ -26,6 +27,8 @@ pub data Line : Type 0 where
   grows : ℕ → List ℕ → Line
   -- samples, and what they leave: RTT, deviation and RTO
   smooths : List ℕ → ℕ → ℕ → ℕ → Line
+  -- an old time and a sample, and the new time by the f64 engine and by the whole-number one
+  weighs : ℕ → ℕ → ℕ → Line
   -- packets in flight of these ages, the lowest number first, and a window, at RTO 9,000: how many are resent, and the window after it
   resends : List ℕ → ℕ → ℕ → ℕ → Line
 
@@ -56,6 +59,10 @@ spelled (piece ∷ rest) = piece .number ∷ length (piece .bytes) ∷ (piece .b
 -- the calls of a run, with slots of one byte
 abbrev runOf : ℕ → List Call → List Event
 runOf s calls = eventsOf (begun (record { 0 = s }) 1 (replicate 512 0)) calls
+
+-- an engine's answer is this time
+abbrev weighing : Said → ℕ → Bool
+weighing said time = same (inNumbers said) (0 ∷ time ∷ [])
 
 abbrev growing : ℕ → List ℕ → Bool
 growing window [] = true
@@ -103,6 +110,7 @@ holds (receives s calls answer output) = lastIs answer output (runOf s calls)
 holds (hands s calls pieces) = same (spelled pieces) (spelled (takenIn (runOf s calls)))
 holds (grows window list) = growing window list
 holds (smooths samples rtt deviation rto) = timed (sampledBy G.Unsampled samples) rtt deviation rto
+holds (weighs old sample time) = weighing (smoothSaid floatOf old sample) time && weighing (smoothSaid smoothedOf old sample) time
 holds (resends ages window count after) = resent (resendOf (flying ages window) 20000 true) count after
 
 -- every line holds

@@ -5,7 +5,7 @@ use lib.ListN.{replicate}
 use Rattle.terms.specs.Answers.{refusal, values}
 use Rattle.receiver_runs.specs.Runs.{Call, accept, take, acknowledge}
 use Rattle.receiver_runs.specs.History.{Piece}
-use Rattle.worked.specs.Lines.{Line, receives, hands, grows, smooths, resends}
+use Rattle.worked.specs.Lines.{Line, receives, hands, grows, smooths, weighs, resends}
 
 -- a packet of the number n with one byte, the number's last one, and with none
 abbrev packet : ℕ → Call
@@ -69,6 +69,9 @@ table =
     -- samples 800, 1,600: RTO 2,400; then RTT 900, deviation 500, RTO 2,900 (document 02, request [3])
     smooths (800 ∷ []) 800 400 2400 ∷
     smooths (800 ∷ 1600 ∷ []) 900 500 2900 ∷
+    -- old 800 and sample 1,600 give 900; old 1 and sample 0 give 0 (document 02, request [8])
+    weighs 800 1600 900 ∷
+    weighs 1 0 0 ∷
     -- ages 9,001, 50, 9,001 at RTO 9,000, window 3: one resent, and the window falls by 1; age 9,000: none
     resends (9001 ∷ 50 ∷ 9001 ∷ []) 3 1 2 ∷
     resends (9000 ∷ []) 3 0 3 ∷

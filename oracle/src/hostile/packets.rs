@@ -108,5 +108,8 @@ impl Draft {
         self.ask(Call::Sample { before, sample });
         self.ask(Call::Grown(window));
         self.ask(Call::Fallen(window));
+        let mut time = || u64::from(self.random.word()) << self.random.pick(&[0, 0, 1, 32]);
+        let (old, sample) = (time(), time());
+        self.ask(Call::Smooth { old, sample });
     }
 }

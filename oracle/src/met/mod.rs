@@ -7,14 +7,14 @@ use crate::{
     calls::Call,
     model::{
         answer::{Line, World},
-        receiver, sender, sending, serial,
+        receiver, sender, sending, serial, timer,
     },
 };
 use shapes::SHAPES;
 use std::{cell::RefCell, collections::BTreeMap};
 
 /// Every number that a call can give, in document 01's order. Of `destination` and `valid` these are the answers.
-const CALLS: [(&str, &[u64]); 16] = [
+const CALLS: [(&str, &[u64]); 17] = [
     ("read", &[2, 1, 3, 4, 5, 6, 0]),
     ("destination", &[0, 40, 64, 96, 132]),
     ("write", &[8, 5, 6, 9, 4, 9, 2, 7, 0]),
@@ -31,6 +31,7 @@ const CALLS: [(&str, &[u64]); 16] = [
     ("resend", &[11, 10, 24, 25, 0]),
     ("fetch", &[11, 10, 17, 7, 0]),
     ("feed", &[11, 10, 30, 0]),
+    ("smooth", &[31, 0]),
 ];
 
 /// Two refusals that cannot apply together, or of which the model does not ask the second where the first applies.
@@ -50,7 +51,7 @@ const APART: [(&str, u64, u64); 11] = [
 
 /// What can be wrong, and the refusal that it gives: with a receiver, a sender or its clock, which state of a submit, a line's reader or the length
 /// that comes to it.
-const WRONG: [(&str, u64, &[&str]); 10] = [
+const WRONG: [(&str, u64, &[&str]); 11] = [
     ("receiver", 11, &receiver::RULES),
     ("receiver", 10, &receiver::SIZES),
     ("sender", 11, &sender::RULES),
@@ -61,6 +62,7 @@ const WRONG: [(&str, u64, &[&str]); 10] = [
     ("line", 11, &serial::RULES),
     ("line", 10, &serial::SIZES),
     ("line", 30, &serial::LENGTHS),
+    ("smooth", 31, &timer::TIMES),
 ];
 
 /// Every earlier and later refusal of a call that can apply together. Reading goes step by step and is left out.

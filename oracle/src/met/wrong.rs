@@ -2,7 +2,7 @@
 //! its states. Only what is wrong alone shows that it is tested.
 use crate::{
     calls::Call,
-    model::{answer::World, sending},
+    model::{answer::World, sending, timer},
 };
 
 /// The rule, size, clock or state that is wrong with no other of its kind, and whose it is.
@@ -23,6 +23,7 @@ pub fn of(world: &World, call: &Call) -> Option<(&'static str, &'static str)> {
             };
             ("submit", vec![which(sending::STATES, 0), which(sending::SIZES, 1)])
         }
+        Call::Smooth { old, sample } => ("smooth", vec![timer::large(*old, *sample)]),
         Call::Feed(portion) => {
             ("line", vec![world.line.broken(), world.line.wrong(&world.line_buffer), world.line.unfit(portion)])
         }

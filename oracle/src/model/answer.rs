@@ -67,6 +67,10 @@ impl World {
                 let (rtt, deviation) = after.expect("sampled");
                 plain(format!("sample {rtt} {deviation} {}", timer::rto(after)))
             }
+            Call::Smooth { old, sample } => {
+                let result = timer::smooth(*old, *sample);
+                told("smooth", &result, &result.unwrap_or(0).to_string())
+            }
             Call::Grown(window) => plain(format!("window {}", timer::grown(*window))),
             Call::Fallen(window) => plain(format!("window {}", timer::fallen(*window))),
             Call::Valid => plain(format!("valid {}", u8::from(self.sender.broken().is_empty()))),

@@ -70,6 +70,7 @@ impl Rest<'_> {
                 Call::Sample { before: sampled.then_some(timing), sample: self.u32()? }
             }
             b'g' => Call::Grown(self.u32()?),
+            b'm' => Call::Smooth { old: self.number(8)?, sample: self.number(8)? },
             b'f' => Call::Fallen(self.u32()?),
             b'S' => Call::Start { s: self.u32()?, slot: self.u32()?, store: self.store()? },
             b'R' => Call::SetReceiver(self.receiver()?),

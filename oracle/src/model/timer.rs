@@ -1,5 +1,7 @@
 //! Document 01, "Sender", with document 02's request [3]: the timer of RFC 6298 in whole milliseconds, and the window.
 
+use super::{refuse, Refusal, TOP};
+
 /// RTT and deviation; none before a sample.
 pub type Timing = Option<(u32, u32)>;
 
@@ -13,6 +15,20 @@ pub fn sampled(before: Timing, sample: u32) -> Timing {
         }
     };
     Some((rtt as u32, deviation as u32))
+}
+
+/// What 31 is about.
+pub const TIMES: [&str; 2] = ["the old time", "the sample"];
+
+/// Which of the two times is too large.
+pub fn large(old: u64, sample: u64) -> Vec<&'static str> {
+    TIMES.into_iter().zip([old, sample]).filter(|(_, time)| *time > TOP.into()).map(|(name, _)| name).collect()
+}
+
+/// Document 02, [8]: the Rust's own smoothing, in f64, cut to whole milliseconds.
+pub fn smooth(old: u64, sample: u64) -> Result<u64, Refusal> {
+    refuse("smooth", &[(31, !large(old, sample).is_empty())])?;
+    Ok((0.875 * old as f64 + 0.125 * sample as f64).floor() as u64)
 }
 
 pub fn rto(timing: Timing) -> u64 {
