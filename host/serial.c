@@ -16,7 +16,7 @@ static void tell(size length) {
         printf("refused %u\n", f.refusal);
         return;
     }
-    printf("send %u, receive %u, number %u, ack-through %u, ", f.send_stream_id, f.recv_stream_id, f.seq_nro, f.ack_through);
+    printf("send %u, receive %u, number %u, ack-through %u, ", f.send_stream_id.id, f.recv_stream_id.id, f.seq_nro.number, f.ack_through.number);
     printf("NACKs %zu, resend delay %u, flags %u, ", f.nacks.len / 4, f.resend_delay, f.flags);
     printf("delay %u, maximum size %u, payload %zu\n", f.delay, f.max_size, f.payload.len);
 }
