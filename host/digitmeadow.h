@@ -1,4 +1,4 @@
-/* The receiving half of an I2P stream, for hosts: libhost.a, made by `rt staticlib host`, for Linux on x86-64.
+/* The receiving half of an I2P stream, for hosts: libhost_library.a, made by `rt staticlib host_library`, for Linux on x86-64.
  *
  * Every call is total: whatever the bytes, numbers and states, it ends, reads and writes only what it was lent, and answers. No call
  * keeps a pointer, allocates, waits or locks. What each does is proved; the definitions are in crates/host_numbers/specs and those that they name.
@@ -63,6 +63,24 @@ struct digitmeadow_counted {
     digitmeadow_size count;
 };
 
+/* Where a number stands in a receiver. */
+struct digitmeadow_stand {
+    digitmeadow_u32 refusal;             /* 11 or 10, or 0 */
+    digitmeadow_u32 reason;              /* one of the eight below, or 0 where it is refused */
+    struct digitmeadow_seq_no smallest;  /* the smallest missing number, where the piece is held behind a gap; else 0 */
+};
+
+enum {
+    DIGITMEADOW_LAST_NUMBER = 1,    /* the number 4,294,967,295, which no packet can use */
+    DIGITMEADOW_BELOW_START = 2,    /* at or below the number that the start came after: this receiver never waits for it */
+    DIGITMEADOW_TAKEN = 3,          /* delivered: it was taken */
+    DIGITMEADOW_READY = 4,          /* held, with nothing missing below it: the host has only to take */
+    DIGITMEADOW_BEHIND_GAP = 5,     /* held, but it waits for the smallest missing number, which is named */
+    DIGITMEADOW_MISSING = 6,        /* it was never accepted, though a later one was */
+    DIGITMEADOW_NOT_YET_SEEN = 7,   /* neither it nor a later one was accepted so far */
+    DIGITMEADOW_BEYOND_SPAN = 8     /* 512 or more from the next to take: it would be refused with 14 now */
+};
+
 /* Where a part of a packet stands in the packet. An absent part has no byte. */
 struct digitmeadow_part {
     digitmeadow_size at;
@@ -89,6 +107,7 @@ struct digitmeadow_fields {
 
 _Static_assert(sizeof(struct digitmeadow_receiver) == 1040, "a receiver's state is 1,040 bytes");
 _Static_assert(sizeof(struct digitmeadow_counted) == 16, "an answer with a count is 16 bytes");
+_Static_assert(sizeof(struct digitmeadow_stand) == 12, "where a number stands is 12 bytes");
 _Static_assert(sizeof(struct digitmeadow_fields) == 104, "a packet's fields are 104 bytes");
 _Static_assert(sizeof(struct digitmeadow_line) == 32, "a line's reader is 32 bytes");
 _Static_assert(sizeof(struct digitmeadow_heard) == 56, "what a portion came to is 56 bytes");
@@ -118,6 +137,9 @@ struct digitmeadow_counted digitmeadow_take(
 struct digitmeadow_counted digitmeadow_acknowledge(
     const struct digitmeadow_receiver *r, struct digitmeadow_stream_id send_stream_id, struct digitmeadow_stream_id recv_stream_id,
     digitmeadow_u8 *output, digitmeadow_size output_length);
+
+/* Says why a piece is not delivered: where a number stands in a receiver, which stays as it is. Refused with 11 or 10. */
+struct digitmeadow_stand digitmeadow_why(const struct digitmeadow_receiver *r, struct digitmeadow_seq_no number);
 
 /* Starts a reader of a serial line over a buffer of any length, whatever is in it. A packet that is longer than the buffer is refused. */
 struct digitmeadow_line digitmeadow_line_start(const digitmeadow_u8 *buffer, digitmeadow_size buffer_length);

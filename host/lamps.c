@@ -67,7 +67,7 @@ static void take_ready(void) {
 /* The acknowledgement, written and read back; it is told where it names missing numbers. */
 static void acknowledge(void) {
     u8 out[1044];
-    struct digitmeadow_counted c = digitmeadow_acknowledge(&lamp, SENDER_ID, LAMP_ID, out, sizeof out);
+    struct digitmeadow_counted c = digitmeadow_acknowledge(&lamp, (struct digitmeadow_stream_id){SENDER_ID}, (struct digitmeadow_stream_id){LAMP_ID}, out, sizeof out);
     struct digitmeadow_fields ack = digitmeadow_read(out, c.count);
     if (c.refusal != 0 || ack.refusal != 0) {
         printf("  acknowledged: refused %u %u\n", c.refusal, ack.refusal);
@@ -77,6 +77,24 @@ static void acknowledge(void) {
     printf("  acknowledged: ack-through %u, NACKs", ack.ack_through.number);
     for (size i = 0; i < ack.nacks.len; i += 4) printf(" %u", get32(out + ack.nacks.at + i));
     printf("\n");
+}
+
+/* Where a number stands, as support reads it. */
+static void explain(u32 number) {
+    static const char *const words[] = {
+        [DIGITMEADOW_LAST_NUMBER] = "It is the last number, which no packet can use",
+        [DIGITMEADOW_BELOW_START] = "It is at or below the start",
+        [DIGITMEADOW_TAKEN] = "It is: it was taken",
+        [DIGITMEADOW_READY] = "It is ready: it has only to be taken",
+        [DIGITMEADOW_MISSING] = "It is missing, and a later one came",
+        [DIGITMEADOW_NOT_YET_SEEN] = "It is not yet seen",
+        [DIGITMEADOW_BEYOND_SPAN] = "It is beyond the span",
+    };
+    struct digitmeadow_stand s = digitmeadow_why(&lamp, (struct digitmeadow_seq_no){number});
+    printf("  why is %u not delivered? ", number);
+    if (s.refusal != 0) printf("Refused %u.\n", s.refusal);
+    else if (s.reason == DIGITMEADOW_BEHIND_GAP) printf("It is held behind a gap: the smallest missing number is %u.\n", s.smallest.number);
+    else printf("%s.\n", words[s.reason]);
 }
 
 /* A packet's bytes arrive, in the way that the words say. */
@@ -122,7 +140,10 @@ int main(void) {
         printf("start: refused %u\n", refusal);
         return 1;
     }
-    static const u32 order[] = {2, 3, 1, 4, 6};
+    arrives(2);
+    arrives(3);
+    explain(3);
+    static const u32 order[] = {1, 4, 6};
     for (size i = 0; i < sizeof order / sizeof order[0]; i++) arrives(order[i]);
     again(3);
     arrives(9);

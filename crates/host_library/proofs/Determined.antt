@@ -12,9 +12,11 @@ use Rattle.receiver_calls.specs.Accept.{acceptOf}
 use Rattle.receiver_calls.specs.Take.{takeOf}
 use Rattle.receiver_state.specs.declared.Receiver.{Receiver}
 use Rattle.receiver_ack.specs.Acknowledge.{acknowledgeOf}
+use Rattle.receiver_why.specs.Reasons.{whyOf}
 use Rattle.host_numbers.specs.declared.Counted.{Counted}
 use Rattle.host_numbers.specs.declared.Fields.{Fields}
-use Rattle.host_numbers.specs.Numbers.{ForHost, forHost, startForHost, withNumber, withCount, AckForHost, ackForHost, withOutput}
+use Rattle.host_numbers.specs.declared.Stand.{Stand}
+use Rattle.host_numbers.specs.Numbers.{ForHost, forHost, startForHost, standOf, withNumber, withCount, AckForHost, ackForHost, withOutput}
 use Rattle.host_numbers.specs.Fields.{hostedRead}
 use Rattle.serial_state.specs.Start.{lineStart}
 use Rattle.serial_state.specs.declared.LineReader.{LineReader}
@@ -52,6 +54,9 @@ pub digitmeadow-acknowledge-determined : (r : Receiver) (send recv : StreamId) (
 digitmeadow-acknowledge-determined r send recv output a b x y p q =
     let e = determined p q in
     (ap (λ (o : AckForHost). o .answer) e, ap (λ (o : AckForHost). o .output) e)
+
+pub digitmeadow-why-determined : (r : Receiver) (number : SeqNo) (a b : Stand) → a ≡ standOf (whyOf r number) → b ≡ standOf (whyOf r number) → a ≡ b
+digitmeadow-why-determined r number a b p q = determined p q
 
 pub digitmeadow-line-start-determined : (buffer : List ℕ) (a b : LineReader) → a ≡ lineStart buffer → b ≡ lineStart buffer → a ≡ b
 digitmeadow-line-start-determined buffer a b p q = determined p q

@@ -9,13 +9,15 @@ ghost use Rattle.receiver_state.specs.Start.{startOf};
 ghost use Rattle.receiver_calls.specs.Accept.{acceptOf};
 ghost use Rattle.receiver_calls.specs.Take.{takeOf};
 ghost use Rattle.receiver_ack.specs.Acknowledge.{acknowledgeOf};
-ghost use Rattle.host_numbers.specs.Numbers.{forHost, startForHost, withNumber, withCount, ackForHost, withOutput};
+ghost use Rattle.receiver_why.specs.Reasons.{whyOf};
+ghost use Rattle.host_numbers.specs.Numbers.{forHost, startForHost, withNumber, withCount, ackForHost, withOutput, standOf};
 ghost use Rattle.host_numbers.specs.Fields.{hostedRead};
 ghost use Rattle.serial_state.specs.Start.{lineStart};
 ghost use Rattle.serial_feed.specs.Feed.{feedOf};
 ghost use Rattle.host_serial.specs.Line.{hostedFeed, hostFed};
 use host_numbers::Counted;
 use host_numbers::Fields;
+use host_numbers::Stand;
 use host_serial::LineHeard;
 use packet_read::Reading;
 use receiver_state::Receiver;
@@ -79,6 +81,14 @@ pub extern "C" fn digitmeadow_acknowledge(
     ensures { λ c. ⌜ withOutput c (now (output .exit)) ≡ ackForHost (acknowledgeOf (now (r .entry)) send recv (now (output .entry))) ⌝ }
 {
     host_numbers::acknowledgement(*r, send, recv, output)
+}
+
+// Says why a piece is not delivered: `receiver_why::why`.
+#[no_mangle]
+pub extern "C" fn digitmeadow_why(r: &Receiver, number: SeqNo) -> Stand
+    ensures { λ s. ⌜ s ≡ standOf (whyOf (now (r .entry)) number) ⌝ }
+{
+    host_numbers::why(*r, number)
 }
 
 // Starts a reader of packets on a serial line, over a buffer of any length: `serial_state::start`.

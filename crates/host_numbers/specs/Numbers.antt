@@ -1,11 +1,13 @@
 -- What the exported calls give a host, which knows numbers and no enum: the refusal's number, or 0 and how many bytes.
 use Prim.Native.Nat.{ℕ}
 use mathlib.Core.List.{List, [], _∷_}
+use lib.ListN.{getD}
 use Rattle.terms.specs.Answers.{Said, refusal, values, _unlessRefused_else_}
 use Rattle.receiver_state.specs.Answers.{Outcome}
 use Rattle.receiver_state.specs.declared.Receiver.{Receiver}
 use Rattle.receiver_ack.specs.Acknowledge.{Acknowledges}
 use Rattle.host_numbers.specs.declared.Counted.{Counted}
+use Rattle.host_numbers.specs.declared.Stand.{Stand}
 
 abbrev pub firstOr0 : List ℕ → ℕ
 firstOr0 [] = 0
@@ -37,6 +39,11 @@ pub record AckForHost : Type 0 where
 
 abbrev pub ackForHost : Acknowledges → AckForHost
 ackForHost a = record { answer = inNumbers (a .says); output = a .output }
+
+-- where a number stands in a receiver: the case by its number, 1 to 8, and the smallest missing number where one is named, else 0
+abbrev pub standOf : Said → Stand
+standOf (refusal number) = record { refusal = number; reason = 0; smallest = record { 0 = 0 } }
+standOf (values given) = record { refusal = 0; reason = getD given 0 0; smallest = record { 0 = getD given 1 0 } }
 
 -- results of the code, as what the host finds: with a number alone, with a count too, and with an output
 abbrev pub withNumber : ℕ → Receiver → List ℕ → ForHost

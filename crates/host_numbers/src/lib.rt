@@ -1,17 +1,19 @@
-// What the calls of the receiving half give a host in C, which knows numbers and no enum: each answer in numbers, and a start and an
-// acknowledgement on a state by value. A refusal is document 01's number, and 0 is none. The exported calls are in `host_library`.
+// What the calls of the receiving half give a host in C, which knows numbers and no enum: each answer in numbers, and a start, an
+// acknowledgement and why on a state by value. A refusal is document 01's number, and 0 is none. The exported calls are in `host_library`.
 ghost use mathlib.Core.Path.{_≡_};
 ghost use mathlib.Core.List.{[]};
 ghost use lib.ListN.{length};
 ghost use Rattle.terms.specs.Answers.{refusal, values, said, saidOf};
 ghost use Rattle.receiver_state.specs.Start.{startOf};
 ghost use Rattle.receiver_ack.specs.Acknowledge.{said as ackSaid, acknowledgeOf};
-ghost use Rattle.host_numbers.specs.Numbers.{inNumbers, startForHost, withNumber, ackForHost, withOutput};
+ghost use Rattle.receiver_why.specs.Reasons.{saidWhy, whyOf};
+ghost use Rattle.host_numbers.specs.Numbers.{inNumbers, startForHost, withNumber, ackForHost, withOutput, standOf};
 ghost use Rattle.host_numbers.specs.Fields.{partOf, hostedRead};
 use packet_read::Packet;
 use packet_read::Span;
 use receiver_ack::Acknowledged;
 use receiver_state::Receiver;
+use receiver_why::Reason;
 use terms::Answer;
 use terms::Given;
 use terms::SeqNo;
@@ -22,6 +24,14 @@ use terms::StreamId;
 pub struct Counted {
     pub refusal: u32,
     pub count: usize,
+}
+
+// Where a number stands in a receiver: a refusal's number, or 0 and one of the eight cases of `receiver_why`, 1 to 8; the smallest missing number where it is 5, else 0.
+#[repr(C)]
+pub struct Stand {
+    pub refusal: u32,
+    pub reason: u32,
+    pub smallest: SeqNo,
 }
 
 // Where a part of a packet stands.
@@ -184,4 +194,44 @@ pub fn acknowledgement(r: Receiver, send: StreamId, recv: StreamId, output: &mut
 {
     let answer = receiver_ack::acknowledge(r, send, recv, output);
     of_acknowledged(answer)
+}
+
+// One of the eight cases.
+fn case(reason: u32, smallest: SeqNo) -> Stand
+    ensures { λ s. ⌜ s ≡ record { refusal = 0; reason = reason; smallest = smallest } ⌝ }
+{
+    Stand {
+        refusal: 0,
+        reason: reason,
+        smallest: smallest,
+    }
+}
+
+fn of_reason(a: Reason) -> Stand
+    ensures { λ s. ⌜ s ≡ standOf (saidWhy a) ⌝ }
+{
+    let none = SeqNo(0);
+    match a {
+        Reason::LastNumber => case(1, none),
+        Reason::AtOrBelowStart => case(2, none),
+        Reason::Taken => case(3, none),
+        Reason::Ready => case(4, none),
+        Reason::BehindGap(smallest) => case(5, smallest),
+        Reason::Missing => case(6, none),
+        Reason::NotYetSeen => case(7, none),
+        Reason::BeyondSpan => case(8, none),
+        Reason::Refused(why) => Stand {
+            refusal: why.number(),
+            reason: 0,
+            smallest: none,
+        },
+    }
+}
+
+// Where a number stands in a receiver, in these numbers.
+pub fn why(r: Receiver, n: SeqNo) -> Stand
+    ensures { λ s. ⌜ s ≡ standOf (whyOf r n) ⌝ }
+{
+    let answer = receiver_why::why(r, n);
+    of_reason(answer)
 }

@@ -125,6 +125,13 @@ fn acknowledge(lamp: Lamp) {
     }
 }
 
+// Tells why a piece is not delivered.
+pub fn explain(lamp: Lamp, number: u32) {
+    let r = lamp.receiver;
+    let asked = SeqNo(number);
+    tell::reason(number, receiver_why::why(r, asked));
+}
+
 // Accepts a payload, takes what is ready, and acknowledges; a refused one changes nothing.
 fn accept(lamp: Lamp, number: SeqNo, payload: &[u8], store: &mut Store, shown: &mut Image) -> Lamp {
     let r = lamp.receiver;

@@ -34,6 +34,7 @@ fn again(number: u32, lamp: Lamp, store: &mut Store, shown: &mut Image) -> Lamp 
 fn early(original: &Image, lamp: Lamp, store: &mut Store, shown: &mut Image) -> Lamp {
     let a = arrives(2, original, lamp, store, shown);
     let b = arrives(3, original, a, store, shown);
+    lamp::explain(b, 3);
     let c = arrives(1, original, b, store, shown);
     arrives(4, original, c, store, shown)
 }

@@ -2,6 +2,7 @@
 use packet_read::Packet;
 use packet_read::Reading;
 use program_lines::say;
+use receiver_why::Reason;
 use terms::Refusal;
 
 fn why(number: u32) {
@@ -40,6 +41,29 @@ pub fn packet(p: Packet, how: &[u8]) {
 pub fn held(next: u32) {
     say::named(b": held, waiting for", next as u64);
     say::text(b"\n");
+}
+
+// Where a number stands, as support reads it.
+pub fn reason(number: u32, answer: Reason) {
+    say::named(b"  why is", number as u64);
+    say::text(b" not delivered? ");
+    match answer {
+        Reason::LastNumber => say::text(b"It is the last number, which no packet can use"),
+        Reason::AtOrBelowStart => say::text(b"It is at or below the start"),
+        Reason::Taken => say::text(b"It is: it was taken"),
+        Reason::Ready => say::text(b"It is ready: it has only to be taken"),
+        Reason::BehindGap(smallest) => {
+            say::named(
+                b"It is held behind a gap: the smallest missing number is",
+                smallest.0 as u64,
+            )
+        }
+        Reason::Missing => say::text(b"It is missing, and a later one came"),
+        Reason::NotYetSeen => say::text(b"It is not yet seen"),
+        Reason::BeyondSpan => say::text(b"It is beyond the span"),
+        Reason::Refused(why) => say::named(b"Refused", why.number() as u64),
+    }
+    say::text(b".\n");
 }
 
 fn listed(number: u32) {
