@@ -56,7 +56,7 @@ impl Host {
         host.note(
             Call::Start { s, slot: 1, store: Buffer::of(512, 0) },
             "start",
-            vec![0, 1, u64::from(s) + 1, s.into(), 0],
+            vec![0, 1, s.into(), u64::from(s) + 1, s.into(), 0],
         );
         let store = Buffer::of(host.store.len(), fill);
         host.note(Call::Begin { first, chunk: CHUNK as u32, count: places as u32, store }, "begin", vec![0]);
