@@ -5,7 +5,7 @@ ghost use mathlib.Core.List.{[]};
 ghost use lib.ListN.{length};
 ghost use Rattle.terms.specs.Answers.{refusal, values, said, saidOf};
 ghost use Rattle.receiver_state.specs.Start.{startOf};
-ghost use Rattle.receiver_ack.specs.Acknowledge.{said as ackSaid, acknowledgeOf};
+ghost use Rattle.receiver_ack.specs.Acknowledge.{saidAck, acknowledgeOf};
 ghost use Rattle.receiver_why.specs.Reasons.{saidWhy, whyOf};
 ghost use Rattle.host_numbers.specs.Numbers.{inNumbers, startForHost, withNumber, ackForHost, withOutput, standOf};
 ghost use Rattle.host_numbers.specs.Fields.{partOf, hostedRead};
@@ -86,7 +86,7 @@ pub fn of_given(g: Given) -> Counted
 }
 
 fn of_acknowledged(a: Acknowledged) -> Counted
-    ensures { λ r. ⌜ r ≡ inNumbers (ackSaid a) ⌝ }
+    ensures { λ r. ⌜ r ≡ inNumbers (saidAck a) ⌝ }
 {
     match a {
         Acknowledged::Written(length) => Counted {

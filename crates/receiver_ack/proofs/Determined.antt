@@ -10,13 +10,13 @@ use Rattle.terms.proofs.Numbers.{number-one}
 use Rattle.receiver_state.specs.declared.Receiver.{Receiver}
 use Rattle.receiver_ack.specs.Missing.{missingFrom}
 use Rattle.receiver_ack.specs.Fields.{fieldsFrom}
-use Rattle.receiver_ack.specs.Acknowledge.{said, Acknowledges, acknowledgeOf, acknowledged}
+use Rattle.receiver_ack.specs.Acknowledge.{saidAck, Acknowledges, acknowledgeOf, acknowledged}
 use Rattle.receiver_ack.specs.declared.AckFields.{AckFields}
 use Rattle.receiver_ack.specs.declared.Acknowledged.{Acknowledged}
 use Rattle.receiver_ack.specs.declared.Acknowledged.the-variants as A
 
 -- document 01's number and values leave one answer
-pub said-one : (a b : Acknowledged) → said a ≡ said b → a ≡ b
+pub said-one : (a b : Acknowledged) → saidAck a ≡ saidAck b → a ≡ b
 said-one (A.Written m) (A.Written n) e = ap A.Written (cc)
 said-one (A.Written m) (A.Refused y) e = let z : _≡_ {A = ℕ} 0 1 = cc in absurd (omega arith)
 said-one (A.Refused x) (A.Written n) e = let z : _≡_ {A = ℕ} 0 1 = cc in absurd (omega arith)

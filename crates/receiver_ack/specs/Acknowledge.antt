@@ -19,9 +19,9 @@ use Rattle.receiver_ack.specs.declared.Acknowledged.{Acknowledged}
 use Rattle.receiver_ack.specs.declared.Acknowledged.the-variants as A
 
 -- what an answer says in document 01's terms: the refusal's number, or the packet's length
-abbrev pub said : Acknowledged → Said
-said (A.Written length) = values (length ∷ [])
-said (A.Refused why) = refusal (numberOf why)
+abbrev pub saidAck : Acknowledged → Said
+saidAck (A.Written length) = values (length ∷ [])
+saidAck (A.Refused why) = refusal (numberOf why)
 
 -- a packet with a receiver's ack fields: both stream ids as given with the call, in wire order, the packet's number, resend delay 0
 abbrev pub ackedFields : AckFields → StreamId → StreamId → ℕ → Fields
@@ -75,4 +75,4 @@ module _ (r : Receiver) (send recv : StreamId) where
 
 -- a result of the code, as an outcome
 abbrev pub acknowledged : Acknowledged → List ℕ → Acknowledges
-acknowledged a output = record { says = said a; output = output }
+acknowledged a output = record { says = saidAck a; output = output }

@@ -12,7 +12,7 @@ ghost use Rattle.terms.specs.Answers.{refusal, values, _unlessRefused_else_};
 ghost use Rattle.receiver_state.specs.Answers.{_over_};
 ghost use Rattle.receiver_ack.specs.Missing.{missingFrom};
 ghost use Rattle.receiver_ack.specs.Fields.{fieldsFrom};
-ghost use Rattle.receiver_ack.specs.Acknowledge.{said, acknowledged, plainAck, acknowledgeOf};
+ghost use Rattle.receiver_ack.specs.Acknowledge.{saidAck, acknowledged, plainAck, acknowledgeOf};
 use packet_read::flags;
 use packet_write::Fields;
 use packet_write::Writing;
@@ -107,9 +107,9 @@ fn plain(
     output: &mut [u8],
 ) -> Acknowledged
     requires { ⌜ (length (now marks) ≡ 512) × (highest .0 ≤ next .0 + 511) × (highest .0 ≤ 4294967294) ⌝ }
-    ensures { λ a. ⌜ said a ≡ (refusal 7 when ltb (length (now (output .entry))) (length (plainAck (next .0) (highest .0) (now (marks .entry)) send recv))
+    ensures { λ a. ⌜ saidAck a ≡ (refusal 7 when ltb (length (now (output .entry))) (length (plainAck (next .0) (highest .0) (now (marks .entry)) send recv))
         else values (length (plainAck (next .0) (highest .0) (now (marks .entry)) send recv) ∷ [])) ⌝ }
-    ensures { λ a. ⌜ now (output .exit) ≡ (plainAck (next .0) (highest .0) (now (marks .entry)) send recv atFrontOf now (output .entry) unlessRefused said a else now (output .entry)) ⌝ }
+    ensures { λ a. ⌜ now (output .exit) ≡ (plainAck (next .0) (highest .0) (now (marks .entry)) send recv atFrontOf now (output .entry) unlessRefused saidAck a else now (output .entry)) ⌝ }
 {
     let mut missing = [0u32; 512];
     let acks = fields(next, highest, marks, &mut missing);

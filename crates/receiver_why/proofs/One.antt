@@ -13,7 +13,7 @@ use Rattle.receiver_calls.specs.Meaning.{isMissing}
 use Rattle.receiver_state.specs.declared.Receiver.{Receiver}
 use Rattle.receiver_state.proofs.Facts.{Ruled, ruled}
 use Rattle.receiver_why.specs.Reasons.{Case, belowStart, wasTaken, isReady, behindGap, neverCame, notYetSeen, beyondSpan, caseOf, saidCase, smallestMissing, whyOf}
-use Rattle.receiver_why.specs.Stands.{IsHeld, Holds, ExactlyOne}
+use Rattle.receiver_why.specs.Stands.{IsHeld, Holds, ExactlyOneCase}
 use Rattle.receiver_why.proofs.Cases.{lacks, below-is, taken-is, beyond-is, unseen-is, never-is, gap-is, ready-is, smallest-first, none-below, is-smallest, at-most, missing-of}
 
 module _ (r : Receiver) (f : Ruled r) (n : ℕ) where
@@ -69,7 +69,7 @@ module _ (r : Receiver) (f : Ruled r) (n : ℕ) where
       (decLe n (r .head .start .0))
 
 -- the theorem
-pub exactly-one : (r : Receiver) (number : SeqNo) → rulesOf r ≡ true → slotFits (r .head .slot) ≡ true → (number .0 ≡ 4294967295 → ⊥) → ExactlyOne r number
+pub exactly-one : (r : Receiver) (number : SeqNo) → rulesOf r ≡ true → slotFits (r .head .slot) ≡ true → (number .0 ≡ 4294967295 → ⊥) → ExactlyOneCase r number
 unfolding whyOf
 exactly-one r number keeps fits usable =
     let f = ruled r keeps in

@@ -30,7 +30,7 @@ Holds r n notYetSeen = (r .head .highest .0 < n) × (n < r .head .next .0 + 512)
 Holds r n beyondSpan = r .head .next .0 + 512 ≤ n
 
 -- of the seven exactly one holds, and it is the one that is given; where a gap is told, the number named is the smallest missing one
-pub record ExactlyOne (r : Receiver) (number : SeqNo) : Type 0 where
+pub record ExactlyOneCase (r : Receiver) (number : SeqNo) : Type 0 where
   pub the : Case
   pub holds : Holds r (number .0) the
   pub only : (c : Case) → Holds r (number .0) c → the ≡ c

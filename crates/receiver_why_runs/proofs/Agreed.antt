@@ -17,7 +17,7 @@ use Rattle.receiver_calls.specs.Meaning.{standing, held}
 use Rattle.receiver_calls.proofs.Standings.{is-taken, is-unseen, is-missing, is-held}
 use Rattle.receiver_calls.proofs.Laws.{where-is, slot-fits}
 use Rattle.receiver_why.specs.Reasons.{Case, belowStart, wasTaken, isReady, behindGap, neverCame, notYetSeen, beyondSpan, smallestMissing}
-use Rattle.receiver_why.specs.Stands.{IsHeld, Holds, ExactlyOne}
+use Rattle.receiver_why.specs.Stands.{IsHeld, Holds, ExactlyOneCase}
 use Rattle.receiver_why.proofs.Cases.{lacks, none-below, is-smallest}
 use Rattle.receiver_why.proofs.One.{exactly-one}
 use Rattle.receiver_why.proofs.Ways.{why-last}
@@ -52,7 +52,7 @@ module _ (run : Run) where
     abbrev n : ℕ
     n = number .0
 
-    one : ExactlyOne r number
+    one : ExactlyOneCase r number
     one = exactly-one r number (known run .sound .keeps) fits usable
 
     -- the case that is told is the one that holds

@@ -10,7 +10,7 @@ use Rattle.sender_state.specs.Answers.{saidTally}
 use Rattle.sender_state.specs.declared.Sender.{Sender}
 use Rattle.sender_state.specs.declared.Tally.{Tally}
 use Rattle.sender_state.specs.declared.Tally.the-variants as Y
-use Rattle.replay_arrival.specs.Arrive.{saidAcks, saidAccept, Arrives, arriveOf, arrived}
+use Rattle.replay_arrival.specs.Arrive.{saidAcks, saidAccept, Arriving, arriveOf, arrived}
 use Rattle.replay_arrival.specs.declared.AcksTold.{AcksTold}
 use Rattle.replay_arrival.specs.declared.AcksTold.the-variants as A
 use Rattle.replay_arrival.specs.declared.AcceptTold.{AcceptTold}
@@ -40,11 +40,11 @@ pub arrive-determined : (packet : List ℕ) (clock : ℕ) (receiver : Receiver) 
 arrive-determined packet clock receiver sender store a b x y p q =
     let e = determined p q in (
       λ k. record {
-        read = said-one (a .read) (b .read) (ap (λ (o : Arrives). o .read) e) k;
-        acks = acks-one (a .acks) (b .acks) (ap (λ (o : Arrives). o .acks) e) k;
-        accept = accept-one (a .accept) (b .accept) (ap (λ (o : Arrives). o .accept) e) k;
+        read = said-one (a .read) (b .read) (ap (λ (o : Arriving). o .read) e) k;
+        acks = acks-one (a .acks) (b .acks) (ap (λ (o : Arriving). o .acks) e) k;
+        accept = accept-one (a .accept) (b .accept) (ap (λ (o : Arriving). o .accept) e) k;
         receiver = e k .receiver;
         sender = e k .sender;
       },
-      ap (λ (o : Arrives). o .store) e,
+      ap (λ (o : Arriving). o .store) e,
     )

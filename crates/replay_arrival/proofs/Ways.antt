@@ -23,7 +23,7 @@ use Rattle.sender_state.specs.Answers as S
 use Rattle.sender_state.specs.declared.Sender.{Sender}
 use Rattle.sender_state.specs.declared.Tally.{Tally}
 use Rattle.sender_acks.specs.Acks.{acksOf}
-use Rattle.replay_arrival.specs.Arrive.{AcksHere, acksHere, AcceptHere, acceptHere, Arrives, arrivesBy, arriveOf}
+use Rattle.replay_arrival.specs.Arrive.{AcksHere, acksHere, AcceptHere, acceptHere, Arriving, arrivesBy, arriveOf}
 
 -- the loop: the numbers so far, and behind them those that are left
 pub record Listed (packet numbers₀ numbers : List ℕ) (count i : ℕ) : Type 0 where
@@ -105,12 +105,12 @@ module _ (p : Packet) (packet : List ℕ) (receiver : Receiver) (store : List �
 -- the packet
 module _ (packet : List ℕ) (clock : ℕ) (receiver : Receiver) (sender : Sender) (store : List ℕ) where
   pub not-read : (number : ℕ) → readOf packet ≡ refusal number
-      → _≡_ {A = Arrives} (record { read = refusal number; acks = []; accept = []; receiver = receiver; sender = sender; store = store }) (arriveOf packet clock receiver sender store)
+      → _≡_ {A = Arriving} (record { read = refusal number; acks = []; accept = []; receiver = receiver; sender = sender; store = store }) (arriveOf packet clock receiver sender store)
   unfolding arriveOf
   not-read number e = ap (λ (s : Saying Packet). arrivesBy s packet clock receiver sender store) (sym e)
 
   pub was-read : (p : Packet) → readOf packet ≡ values p → (a : AcksHere) → a ≡ acksHere p packet clock sender → (b : AcceptHere) → b ≡ acceptHere p packet receiver store
-      → _≡_ {A = Arrives} (record { read = values []; acks = a .told; accept = b .told; receiver = b .receiver; sender = a .sender; store = b .store })
+      → _≡_ {A = Arriving} (record { read = values []; acks = a .told; accept = b .told; receiver = b .receiver; sender = a .sender; store = b .store })
       (arriveOf packet clock receiver sender store)
   unfolding arriveOf
   was-read p e a x b y =

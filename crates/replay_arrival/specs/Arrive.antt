@@ -51,7 +51,7 @@ acceptHere p packet receiver store =
     }
 
 -- the answers, in their order, and what is left of both halves and of the receiver's store
-pub record Arrives : Type 0 where
+pub record Arriving : Type 0 where
   pub read : Said
   pub acks : List Said
   pub accept : List Said
@@ -59,7 +59,7 @@ pub record Arrives : Type 0 where
   pub sender : Sender
   pub store : List ℕ
 
-abbrev pub arrivesBy : Saying Packet → List ℕ → ℕ → Receiver → Sender → List ℕ → Arrives
+abbrev pub arrivesBy : Saying Packet → List ℕ → ℕ → Receiver → Sender → List ℕ → Arriving
 -- a packet that cannot be read does nothing
 arrivesBy (refusal number) packet clock receiver sender store =
     record { read = refusal number; acks = []; accept = []; receiver = receiver; sender = sender; store = store }
@@ -73,7 +73,7 @@ arrivesBy (values p) packet clock receiver sender store = record {
   store = acceptHere p packet receiver store .store;
 }
 
-unfoldable pub arriveOf : List ℕ → ℕ → Receiver → Sender → List ℕ → Arrives
+unfoldable pub arriveOf : List ℕ → ℕ → Receiver → Sender → List ℕ → Arriving
 arriveOf packet clock receiver sender store = arrivesBy (readOf packet) packet clock receiver sender store
 
 -- results of the code, as an outcome: an answer that was not asked for is none
@@ -91,5 +91,5 @@ ackedHere a = record { told = saidAcks (a .told); sender = a .sender }
 abbrev pub acceptedHere : AcceptedHere → List ℕ → AcceptHere
 acceptedHere a store = record { told = saidAccept (a .told); receiver = a .receiver; store = store }
 
-abbrev pub arrived : Arrived → List ℕ → Arrives
+abbrev pub arrived : Arrived → List ℕ → Arriving
 arrived a store = record { read = said (a .read); acks = saidAcks (a .acks); accept = saidAccept (a .accept); receiver = a .receiver; sender = a .sender; store = store }

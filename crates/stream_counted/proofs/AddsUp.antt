@@ -7,7 +7,7 @@ use borrow.Author.Tests.{lt-leb, ltb-true}
 use Rattle.terms.proofs.Laws.{and-left, and-right}
 use Rattle.sender_meaning.proofs.Starts.{start-standing, start-next}
 use Rattle.sender_runs.proofs.Remembering.{remembers}
-use Rattle.stream_joined.specs.Moves.{Ends, atSender, atReceiver, Moves, nothing, _then_, senderEnd, idsFit, inWidth, allInWidth}
+use Rattle.stream_joined.specs.Moves.{Ends, atSender, atReceiver, Moves, nothing, _then_, senderEnd, idsFit, moveInWidth, movesInWidth}
 use Rattle.stream_joined.specs.Wire.{Joined}
 use Rattle.stream_joined.proofs.Halves.{senderRun, sender-more}
 use Rattle.stream_counted.specs.Counted.{standingIn, bytesSubmitted, bytesAcknowledged, EveryByteCounted}
@@ -28,12 +28,12 @@ module _ (ends : Ends) where
       ))
 
   -- each call keeps the balance
-  balance : (moves : Moves) → allInWidth moves ≡ true → bytesSubmitted ends moves ≡ bytesAtHand (senderEnd ends moves) + bytesAcknowledged ends moves
+  balance : (moves : Moves) → movesInWidth moves ≡ true → bytesSubmitted ends moves ≡ bytesAtHand (senderEnd ends moves) + bytesAcknowledged ends moves
   balance nothing wide = omega (arith, nothing-yet)
-  balance (earlier then atReceiver call) wide = balance earlier (and-left (allInWidth earlier) (inWidth (atReceiver call)) wide)
+  balance (earlier then atReceiver call) wide = balance earlier (and-left (movesInWidth earlier) (moveInWidth (atReceiver call)) wide)
   balance (earlier then atSender call) wide =
-      let before = balance earlier (and-left (allInWidth earlier) (idsFit call) wide) in
-      let one = adds-up (senderEnd ends earlier) (remembers (senderRun ends earlier) .sound) call (and-right (allInWidth earlier) (idsFit call) wide) in
+      let before = balance earlier (and-left (movesInWidth earlier) (idsFit call) wide) in
+      let one = adds-up (senderEnd ends earlier) (remembers (senderRun ends earlier) .sound) call (and-right (movesInWidth earlier) (idsFit call) wide) in
       omega (arith, before, one, ap bytesAtHand (sender-more ends earlier call))
 
 -- 2. of every run

@@ -17,7 +17,7 @@ use Rattle.receiver_runs.proofs.More.{asked-is}
 use Rattle.sender_runs.specs.Runs as S
 use Rattle.sender_runs.specs.Remembers.{made}
 use Rattle.sender_runs.proofs.Goes.{not-made}
-use Rattle.stream_joined.specs.Moves.{Ends, atSender, atReceiver, Moves, nothing, _then_, senderHistory, receiverEnd, receiverHistory, allInWidth}
+use Rattle.stream_joined.specs.Moves.{Ends, atSender, atReceiver, Moves, nothing, _then_, senderHistory, receiverEnd, receiverHistory, movesInWidth}
 use Rattle.stream_joined.specs.Wire.{packetsIn, Arrives, HandedToReceiver, Joined}
 use Rattle.stream_joined.specs.Forgotten.{submittedAt}
 use Rattle.stream_joined.proofs.Halves.{senderRun, earlier-joined, submitted-on, gotEvent, accepted-on}
@@ -37,7 +37,7 @@ of-made ends moves n packet p b e f g (both q c z w r) =
     let same : q ≡ packet = cc in
     record { number = n; bytes = c; as-submitted = g ∙ w; reads = rw same at r }
 
-module _ (ends : Ends) (moves : Moves) (wide : allInWidth moves ≡ true) where
+module _ (ends : Ends) (moves : Moves) (wide : movesInWidth moves ≡ true) where
   pub carries : (packet : List ℕ) → IsOneOf packet (packetsIn (senderHistory ends moves)) → Carries ends moves packet
   carries packet w =
       let k = written-as-made ends moves packet w in

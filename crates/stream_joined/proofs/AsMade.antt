@@ -33,7 +33,7 @@ use Rattle.sender_runs.specs.Remembers.{madeBy, madeIn, made}
 use Rattle.sender_runs.proofs.Remembering.{remembers}
 use Rattle.sender_runs.proofs.Leaving.{leaves-as-made}
 use Rattle.sender_runs.proofs.More.{made-more}
-use Rattle.stream_joined.specs.Moves.{Ends, atSender, atReceiver, Moves, nothing, _then_, senderEnd, senderHistory, idsFit, inWidth, allInWidth}
+use Rattle.stream_joined.specs.Moves.{Ends, atSender, atReceiver, Moves, nothing, _then_, senderEnd, senderHistory, idsFit, moveInWidth, movesInWidth}
 use Rattle.stream_joined.specs.Wire.{packetBy, packetsIn}
 use Rattle.stream_joined.specs.Forgotten.{chunkBy, submittedAt}
 use Rattle.stream_joined.proofs.Halves.{senderRun, made-on, submitted-on}
@@ -88,14 +88,14 @@ module _ (ends : Ends) (kept : S.Kept) (sound : Sound (kept .state) (kept .store
   called (S.fetch rank output) wide n = neither refl refl
 
 -- So at every point of a run: what was made under a number reads as the number and the bytes submitted under it.
-pub made-reads : (ends : Ends) (moves : Moves) → allInWidth moves ≡ true → (n : ℕ) → Both n (made (senderRun ends moves) n) (submittedAt ends moves n)
+pub made-reads : (ends : Ends) (moves : Moves) → movesInWidth moves ≡ true → (n : ℕ) → Both n (made (senderRun ends moves) n) (submittedAt ends moves n)
 made-reads ends nothing wide n = neither refl refl
-made-reads ends (earlier then atReceiver call) wide n = made-reads ends earlier (and-left (allInWidth earlier) (inWidth (atReceiver call)) wide) n
+made-reads ends (earlier then atReceiver call) wide n = made-reads ends earlier (and-left (movesInWidth earlier) (moveInWidth (atReceiver call)) wide) n
 made-reads ends (earlier then atSender call) wide n =
     let known = remembers (senderRun ends earlier) in
     rw (made-on ends earlier call n, submitted-on ends earlier call n)
-    (both-then n _ _ _ _ (made-reads ends earlier (and-left (allInWidth earlier) (idsFit call) wide) n)
-    (called ends (senderEnd ends earlier) (known .sound) (known .chunk-is) call (and-right (allInWidth earlier) (idsFit call) wide) n))
+    (both-then n _ _ _ _ (made-reads ends earlier (and-left (movesInWidth earlier) (idsFit call) wide) n)
+    (called ends (senderEnd ends earlier) (known .sound) (known .chunk-is) call (and-right (movesInWidth earlier) (idsFit call) wide) n))
 
 -- WHAT LEAVES
 

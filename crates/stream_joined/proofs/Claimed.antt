@@ -27,7 +27,7 @@ use Rattle.receiver_runs.proofs.More as Receives
 use Rattle.sender_runs.specs.Runs as S
 use Rattle.sender_runs.specs.Remembers.{namedBy, namedIn}
 use Rattle.sender_runs.proofs.More.{asked-is}
-use Rattle.stream_joined.specs.Moves.{Ends, atSender, atReceiver, Moves, nothing, _then_, senderEnd, senderHistory, receiverEnd, receiverHistory, allInWidth}
+use Rattle.stream_joined.specs.Moves.{Ends, atSender, atReceiver, Moves, nothing, _then_, senderEnd, senderHistory, receiverEnd, receiverHistory, movesInWidth}
 use Rattle.stream_joined.specs.Wire.{ackBy, acksIn, Returns, HandedToSender, Joined}
 use Rattle.stream_joined.proofs.Halves.{receiverRun, earlier-joined, sentEvent, named-on, gotEvent, got-more, accepted-on}
 
@@ -52,7 +52,7 @@ claims-stay ends earlier call packet c = record { absent-came = λ n low up out.
 
 -- THE RECEIVER'S SIDE
 
-module _ (ends : Ends) (moves : Moves) (wide : allInWidth moves ≡ true) where
+module _ (ends : Ends) (moves : Moves) (wide : movesInWidth moves ≡ true) where
   -- what is taken or held was accepted
   there-came : (n : ℕ) → ends .s .0 < n → Taken (receiverRun ends moves wide) n ⊎ Held (receiverRun ends moves wide) n → Came ends moves n
   there-came n low =
@@ -80,13 +80,13 @@ acks-more [] rest = refl
 acks-more (e ∷ h) rest = rw (acks-more h rest, append-assoc (ackBy (e .asked) (e .answered) (e .output)) (acksIn h) (acksIn rest))
 
 -- and later
-pub written-claims : (ends : Ends) (moves : Moves) → allInWidth moves ≡ true → (packet : List ℕ) → IsOneOf packet (acksIn (receiverHistory ends moves)) → Claims ends moves packet
+pub written-claims : (ends : Ends) (moves : Moves) → movesInWidth moves ≡ true → (packet : List ℕ) → IsOneOf packet (acksIn (receiverHistory ends moves)) → Claims ends moves packet
 written-claims ends nothing wide packet w = absurd (List·Memᴰ·not-nil w)
 written-claims ends (earlier then atSender call) wide packet w =
-    let c = written-claims ends earlier (and-left (allInWidth earlier) _ wide) packet w in
+    let c = written-claims ends earlier (and-left (movesInWidth earlier) _ wide) packet w in
     record { absent-came = c .absent-came }
 written-claims ends (earlier then atReceiver call) wide packet w =
-    let low = and-left (allInWidth earlier) (R.inWidth call) wide in
+    let low = and-left (movesInWidth earlier) (R.inWidth call) wide in
     let event = gotEvent ends earlier call in
     let own = ackBy (event .asked) (event .answered) (event .output) in
     let is = ap acksIn (got-more ends earlier call) ∙ acks-more (receiverHistory ends earlier) (event ∷ []) in
@@ -94,7 +94,7 @@ written-claims ends (earlier then atReceiver call) wide packet w =
     claims-stay ends earlier call packet
     (⊎-elim (written-claims ends earlier low packet)
     (λ (d : IsOneOf packet (own ++ [])).
-    writes ends earlier low call (event .answered) (and-right (allInWidth earlier) (R.inWidth call) wide) refl packet
+    writes ends earlier low call (event .answered) (and-right (movesInWidth earlier) (R.inWidth call) wide) refl packet
     (rw (append-nil own, Receives.asked-is (receiverEnd ends earlier) call) at d))
     (List·Memᴰ·append-cases (acksIn (receiverHistory ends earlier)) w'))
 
@@ -107,7 +107,7 @@ named-absent n (m ∷ nacks) t =
     let other : n ≡ m → ⊥ = λ e. eqb-false m n (not-true (eqb m n) (and-left (differs n m) (all (differs n) nacks) t)) (sym e) in
     rw (ne-eqb n m other) (named-absent n nacks (and-right (differs n m) (all (differs n) nacks) t))
 
-module _ (ends : Ends) (earlier : Moves) (wide : allInWidth earlier ≡ true) (n : ℕ) (low : ends .s .0 < n) where
+module _ (ends : Ends) (earlier : Moves) (wide : movesInWidth earlier ≡ true) (n : ℕ) (low : ends .s .0 < n) where
   returned : (through : ℕ) (nacks : List ℕ) → Returns (acksIn (receiverHistory ends earlier)) through nacks → isNamed through nacks n ≡ true → Came ends earlier n
   returned through nacks r t =
       let up : n ≤ through = leb-true n through (and-left (leb n through) (all (differs n) nacks) t) in

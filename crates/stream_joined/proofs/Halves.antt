@@ -14,7 +14,7 @@ use Rattle.receiver_runs.proofs.More.{events-more, widths-more, accepted-more}
 use Rattle.sender_runs.specs.Runs as S
 use Rattle.sender_runs.specs.Remembers.{madeBy, madeIn, namedIn, made}
 use Rattle.sender_runs.proofs.More as Sends
-use Rattle.stream_joined.specs.Moves.{Ends, Move, atSender, atReceiver, Moves, nothing, _then_, senderCalls, receiverCalls, senderEnd, receiverEnd, senderHistory, receiverHistory, inWidth, allInWidth}
+use Rattle.stream_joined.specs.Moves.{Ends, Move, atSender, atReceiver, Moves, nothing, _then_, senderCalls, receiverCalls, senderEnd, receiverEnd, senderHistory, receiverHistory, moveInWidth, movesInWidth}
 use Rattle.stream_joined.specs.Wire.{Joined}
 use Rattle.stream_joined.specs.Forgotten.{chunkBy, chunkIn, submittedAt}
 
@@ -30,14 +30,14 @@ senderRun ends moves = record {
   calls = senderCalls moves;
 }
 
-pub calls-fit : (moves : Moves) → allInWidth moves ≡ true → R.allInWidth (receiverCalls moves) ≡ true
+pub calls-fit : (moves : Moves) → movesInWidth moves ≡ true → R.allInWidth (receiverCalls moves) ≡ true
 calls-fit nothing w = refl
-calls-fit (earlier then atSender call) w = calls-fit earlier (and-left (allInWidth earlier) (inWidth (atSender call)) w)
+calls-fit (earlier then atSender call) w = calls-fit earlier (and-left (movesInWidth earlier) (moveInWidth (atSender call)) w)
 calls-fit (earlier then atReceiver call) w =
-    widths-more call (receiverCalls earlier) (calls-fit earlier (and-left (allInWidth earlier) (R.inWidth call) w)) (and-right (allInWidth earlier) (R.inWidth call) w)
+    widths-more call (receiverCalls earlier) (calls-fit earlier (and-left (movesInWidth earlier) (R.inWidth call) w)) (and-right (movesInWidth earlier) (R.inWidth call) w)
 
 -- and the receiver's
-abbrev pub receiverRun : (ends : Ends) (moves : Moves) → allInWidth moves ≡ true → R.Run
+abbrev pub receiverRun : (ends : Ends) (moves : Moves) → movesInWidth moves ≡ true → R.Run
 receiverRun ends moves wide = record {
   s = ends .s;
   slot = ends .slot;
@@ -50,7 +50,7 @@ receiverRun ends moves wide = record {
 
 -- the beginning of a joined run is a joined run
 pub earlier-joined : (ends : Ends) (earlier : Moves) (move : Move) → Joined ends (earlier then move) → Joined ends earlier
-earlier-joined ends earlier move j = record { truly = j .truly .0; widths = and-left (allInWidth earlier) (inWidth move) (j .widths) }
+earlier-joined ends earlier move j = record { truly = j .truly .0; widths = and-left (movesInWidth earlier) (moveInWidth move) (j .widths) }
 
 -- ONE CALL MORE AT THE SENDER
 

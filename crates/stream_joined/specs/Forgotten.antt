@@ -41,16 +41,16 @@ module _ (ends : Ends) (moves : Moves) where
     pub not-there : standing (senderEnd ends moves .state) (senderEnd ends moves .store) n ≡ gone
 
   -- the receiver holds it, with these bytes, or a take gave it, with these bytes
-  abbrev pub HeldWith : ℕ → List ℕ → Type 0
-  HeldWith n bytes = Receiving.standing (receiverEnd ends moves .state) (receiverEnd ends moves .store) n ≡ Receiving.held bytes
+  abbrev pub HeldThere : ℕ → List ℕ → Type 0
+  HeldThere n bytes = Receiving.standing (receiverEnd ends moves .state) (receiverEnd ends moves .store) n ≡ Receiving.held bytes
 
-  abbrev pub TakenWith : ℕ → List ℕ → Type 0
-  TakenWith n bytes = firstOf n (takenIn (receiverHistory ends moves)) ≡ some bytes
+  abbrev pub TakenThere : ℕ → List ℕ → Type 0
+  TakenThere n bytes = firstOf n (takenIn (receiverHistory ends moves)) ≡ some bytes
 
   pub record Received (n : ℕ) : Type 0 where
     pub bytes : List ℕ
     pub as-submitted : submittedAt n ≡ some bytes
-    pub received : HeldWith n bytes ⊎ TakenWith n bytes
+    pub received : HeldThere n bytes ⊎ TakenThere n bytes
 
   -- 1. Every number that the sender has dropped from its tables is held or taken at the receiver, with the bytes submitted.
   pub record NothingForgotten : Type 0 where

@@ -73,10 +73,10 @@ idsFit (S.acks through nacks clock) = true
 idsFit (S.resend clock path) = true
 idsFit (S.fetch rank output) = true
 
-abbrev pub inWidth : Move → Bool
-inWidth (atSender call) = idsFit call
-inWidth (atReceiver call) = R.inWidth call
+abbrev pub moveInWidth : Move → Bool
+moveInWidth (atSender call) = idsFit call
+moveInWidth (atReceiver call) = R.inWidth call
 
-abbrev pub allInWidth : Moves → Bool
-allInWidth nothing = true
-allInWidth (earlier then move) = allInWidth earlier && inWidth move
+abbrev pub movesInWidth : Moves → Bool
+movesInWidth nothing = true
+movesInWidth (earlier then move) = movesInWidth earlier && moveInWidth move

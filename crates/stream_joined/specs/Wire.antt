@@ -13,7 +13,7 @@ use Rattle.packet_read.specs.Reading.{fieldsOf, payloadOf}
 use Rattle.receiver_runs.specs.Runs as R
 use Rattle.receiver_runs.specs.Delivered.{throughIn, nacksIn}
 use Rattle.sender_runs.specs.Runs as S
-use Rattle.stream_joined.specs.Moves.{Ends, Move, atSender, atReceiver, Moves, nothing, _then_, senderHistory, receiverHistory, allInWidth}
+use Rattle.stream_joined.specs.Moves.{Ends, Move, atSender, atReceiver, Moves, nothing, _then_, senderHistory, receiverHistory, movesInWidth}
 
 -- WHAT IS WRITTEN
 
@@ -84,4 +84,4 @@ TrulyWritten ends (earlier then move) = TrulyWritten ends earlier × Handed ends
 -- these moves are a run of both ends, joined
 pub record Joined (ends : Ends) (moves : Moves) : Type 0 where
   pub truly : TrulyWritten ends moves
-  pub widths : allInWidth moves ≡ true
+  pub widths : movesInWidth moves ≡ true

@@ -31,7 +31,7 @@ use Rattle.sender_runs.specs.Remembers.{made}
 use Rattle.sender_runs.proofs.Goes.{not-made}
 use Rattle.sender_runs.proofs.Remembering.{remembers}
 use Rattle.sender_runs.proofs.More.{or-else-none}
-use Rattle.stream_joined.specs.Moves.{Ends, atSender, atReceiver, Moves, nothing, _then_, senderEnd, senderHistory, inWidth, idsFit, allInWidth}
+use Rattle.stream_joined.specs.Moves.{Ends, atSender, atReceiver, Moves, nothing, _then_, senderEnd, senderHistory, moveInWidth, idsFit, movesInWidth}
 use Rattle.stream_joined.specs.Forgotten.{chunkBy, submittedAt}
 use Rattle.stream_joined.proofs.Halves.{senderRun, sentEvent, sent-more, sender-more, submitted-on}
 use Rattle.stream_joined.proofs.AsMade.{Both, neither, both, made-reads}
@@ -56,11 +56,11 @@ in-range : (ends : Ends) (moves : Moves) (n : ℕ) (bytes : List ℕ) (p b : Opt
 in-range ends moves n bytes p b e f (neither z w) = not-made f w
 in-range ends moves n bytes p b e f (both q c z w r) = remembers (senderRun ends moves) .made-range n q (e ∙ z)
 
-pub submitted-range : (ends : Ends) (moves : Moves) → allInWidth moves ≡ true → (n : ℕ) (bytes : List ℕ) → submittedAt ends moves n ≡ some bytes
+pub submitted-range : (ends : Ends) (moves : Moves) → movesInWidth moves ≡ true → (n : ℕ) (bytes : List ℕ) → submittedAt ends moves n ≡ some bytes
     → (ends .first .0 ≤ n) × (n < senderNext ends moves)
 submitted-range ends moves wide n bytes e = in-range ends moves n bytes _ _ refl e (made-reads ends moves wide n)
 
-above-none : (ends : Ends) (moves : Moves) → allInWidth moves ≡ true → (n : ℕ) → senderNext ends moves ≤ n → submittedAt ends moves n ≡ none
+above-none : (ends : Ends) (moves : Moves) → movesInWidth moves ≡ true → (n : ℕ) → senderNext ends moves ≤ n → submittedAt ends moves n ≡ none
 above-none ends moves wide n h = go (submittedAt ends moves n) refl
   where
     go : (o : Option (List ℕ)) → submittedAt ends moves n ≡ o → o ≡ none
@@ -151,13 +151,13 @@ module _ (ends : Ends) where
   next-least (earlier then atReceiver call) = next-least earlier
   next-least (earlier then atSender call) = omega (arith, next-least earlier, next-more earlier call)
 
-  pub given-row : (moves : Moves) → allInWidth moves ≡ true → submitted ends moves ≡ row (chunkOf ends moves) (ends .first .0) (senderNext ends moves - ends .first .0)
+  pub given-row : (moves : Moves) → movesInWidth moves ≡ true → submitted ends moves ≡ row (chunkOf ends moves) (ends .first .0) (senderNext ends moves - ends .first .0)
   given-row nothing wide =
       let z : senderNext ends nothing - ends .first .0 ≡ 0 = omega (arith, start-next (ends .first) (ends .chunk) (ends .count) (ends .sendStore) (ends .sender-started)) in
       rw z
-  given-row (earlier then atReceiver call) wide = given-row earlier (and-left (allInWidth earlier) (inWidth (atReceiver call)) wide)
+  given-row (earlier then atReceiver call) wide = given-row earlier (and-left (movesInWidth earlier) (moveInWidth (atReceiver call)) wide)
   given-row (earlier then atSender call) wide =
-      let w = and-left (allInWidth earlier) (idsFit call) wide in
+      let w = and-left (movesInWidth earlier) (idsFit call) wide in
       let first = ends .first .0 in
       let next = senderNext ends earlier in
       let a = added earlier call in

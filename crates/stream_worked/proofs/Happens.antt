@@ -31,14 +31,14 @@ use Rattle.stream_joined.specs.Forgotten.{Dropped, Received}
 use Rattle.stream_joined.proofs.Remembered.{nothing-forgotten}
 use Rattle.stream_counted.specs.Counted.{bytesSubmitted}
 use Rattle.stream_whole.specs.Whole.{taken}
-use Rattle.stream_worked.specs.Example.{ends, one, packet, ack, sent, arrived, moves}
+use Rattle.stream_worked.specs.Example.{ends, one, packet, ack, sent, cameTwice, moves}
 
 -- what each end wrote
 packets : packetsIn (senderHistory ends sent) ≡ packet ∷ []
 unfolding Senders.sizesFit Senders.countsFit Senders.rules Senders.timerFits Senders.clockWrong Sender.startSaid Receivers.rulesOf Receivers.sizesFit Receivers.slotFits Receiver.startSaid acceptSaid entering acceptOf takeSaid passing takeOf missingFrom fieldsFrom nacksFrom plainAck acknowledgeSaid acknowledgeOf packetBytes sampledOf rtoOf timingFits grownOf run replaced sendSaid armed sendOf acksRefusal acksOf submitSaid storedBy submitOf standing
 packets = refl
 
-acked : acksIn (receiverHistory ends arrived) ≡ ack ∷ []
+acked : acksIn (receiverHistory ends cameTwice) ≡ ack ∷ []
 unfolding Senders.sizesFit Senders.countsFit Senders.rules Senders.timerFits Senders.clockWrong Sender.startSaid Receivers.rulesOf Receivers.sizesFit Receivers.slotFits Receiver.startSaid acceptSaid entering acceptOf takeSaid passing takeOf missingFrom fieldsFrom nacksFrom plainAck acknowledgeSaid acknowledgeOf packetBytes sampledOf rtoOf timingFits grownOf run replaced sendSaid armed sendOf acksRefusal acksOf submitSaid storedBy submitOf standing
 acked = refl
 
@@ -54,7 +54,7 @@ returns = record { packet = ack; was-written = List·Memᴰ·head refl; through-
 came : Arrives (packetsIn (senderHistory ends sent)) one (65 ∷ [])
 came = rw packets arrives
 
-back : Returns (acksIn (receiverHistory ends arrived)) 1 []
+back : Returns (acksIn (receiverHistory ends cameTwice)) 1 []
 back = rw acked returns
 
 pub joined : Joined ends moves

@@ -53,8 +53,8 @@ one = record { 0 = 1 }
 abbrev pub sent : Moves
 sent = nothing then atSender (submit (fresh (record { 0 = 0 }) 1) id id (65 ∷ [])) then atSender (send 10 (replicate 25 9))
 
-abbrev pub arrived : Moves
-arrived = sent then atReceiver (accept one (65 ∷ [])) then atReceiver (accept one (65 ∷ [])) then atReceiver (acknowledge id id (replicate 25 9))
+abbrev pub cameTwice : Moves
+cameTwice = sent then atReceiver (accept one (65 ∷ [])) then atReceiver (accept one (65 ∷ [])) then atReceiver (acknowledge id id (replicate 25 9))
 
 abbrev pub moves : Moves
-moves = arrived then atSender (acks 1 [] 20) then atSender (acks 1 [] 30) then atReceiver (take (replicate 5 9))
+moves = cameTwice then atSender (acks 1 [] 20) then atSender (acks 1 [] 30) then atReceiver (take (replicate 5 9))

@@ -6,7 +6,7 @@ use denote.Ref.{now}
 use Rattle.receiver_state.specs.Answers.{_over_}
 use Rattle.receiver_state.specs.Rules.{rulesOf, slotFits}
 use Rattle.receiver_state.proofs.Facts.{ruled}
-use Rattle.receiver_ack.specs.Acknowledge.{said}
+use Rattle.receiver_ack.specs.Acknowledge.{saidAck}
 use Rattle.receiver_ack.proofs.Ways.{ack-broken, ack-unfit, ack-plain}
 use borrow.Author.Needs.{needs}
 use Rattle.receiver_ack.proofs.acknowledge_in.Statement.{statement}
@@ -52,7 +52,7 @@ returns-3 c =
     let e = p .before .before in
     let a = e .before .before .before .before .before .before .args in
     let j = judged e in
-    ack-plain (a .h over now (a .marks)) (a .send) (a .recv) (now (a .output)) (j .0) (j .1) (said (p .plain .result)) _ (p .plain .ensures .0) (p .plain .ensures .1)
+    ack-plain (a .h over now (a .marks)) (a .send) (a .recv) (now (a .output)) (j .0) (j .1) (saidAck (p .plain .result)) _ (p .plain .ensures .0) (p .plain .ensures .1)
 
 pub acknowledge-in-spec : {M : Type 1} → statement M
 acknowledge-in-spec =
