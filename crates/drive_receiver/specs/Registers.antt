@@ -5,8 +5,8 @@ use Rattle.receiver_state.specs.declared.Head.{Head}
 use Rattle.receiver_state.specs.declared.Receiver.{Receiver}
 
 -- the mark of the k-th slot
-abbrev pub markIn : List ℕ → ℕ → ℕ
-markIn bank k = number_in bank (512 + k) % 65536
+abbrev pub mark_in : List ℕ → ℕ → ℕ
+mark_in bank k = number_in bank (512 + k) % 65536
 
 pub record HeadIn (bank : List ℕ) (h : Head) : Type 0 where
   pub slot : h.slot ≡ number_in bank 64 % 4294967296
@@ -16,4 +16,4 @@ pub record HeadIn (bank : List ℕ) (h : Head) : Type 0 where
 
 pub record ReceiverIn (bank : List ℕ) (r : Receiver) : Type 0 where
   pub head : HeadIn bank r.head
-  pub marks : Filled (markIn bank) 512 r.marks
+  pub marks : Filled (mark_in bank) 512 r.marks

@@ -1,7 +1,7 @@
 // What `drive` calls on a receiver: 'S' starts it, 'R' and 'B' set its state and its store, 'a' accepts, 't' takes, 'k' acknowledges, 'y' asks why.
 // The state and what a call asks stand in the registers, and its answer goes there.
 ghost use Rattle.program_script.specs.Numbers.{Filled};
-ghost use Rattle.drive_receiver.specs.Registers.{markIn, HeadIn, ReceiverIn};
+ghost use Rattle.drive_receiver.specs.Registers.{mark_in, HeadIn, ReceiverIn};
 
 use drive_state::tell;
 use program_lines::part;
@@ -16,7 +16,7 @@ use receiver_why::Reason;
 use terms::{SeqNo, StreamId};
 
 fn marks(bank: &Bank) -> [u16; 512]
-    ensures { Filled (markIn bank.now) 512 result }
+    ensures { Filled (mark_in bank.now) 512 result }
 {
     let mut marks = [0u16; 512];
     let mut i = 0;

@@ -3,7 +3,7 @@ pub mod tell;
 
 ghost use Rattle.std.specs.Prelude.{◌≡◌};
 ghost use Rattle.program_script.specs.Numbers.{Filled};
-ghost use Rattle.drive_state.specs.Registers.{fieldIn, timeIn, timingIn, timerIn, SenderIn};
+ghost use Rattle.drive_state.specs.Registers.{field_in, time_in, timing_in, timer_in, SenderIn};
 
 use program_script::registers;
 use program_script::registers::{Bank, PLACES, SENDER};
@@ -22,7 +22,7 @@ const MARK: usize = 3;
 const RESENT: usize = 4;
 
 fn timing(bank: &Bank) -> Timing
-    ensures { result ≡ timingIn bank.now }
+    ensures { result ≡ timing_in bank.now }
 {
     let rtt = registers::word32(bank, SENDER + 5);
     let deviation = registers::word32(bank, SENDER + 6);
@@ -36,7 +36,7 @@ fn timing(bank: &Bank) -> Timing
 }
 
 fn timer(bank: &Bank) -> Timer
-    ensures { result ≡ timerIn bank.now }
+    ensures { result ≡ timer_in bank.now }
 {
     if registers::value(bank, SENDER + 7) == 0 {
         return Timer::Unarmed;
@@ -46,7 +46,7 @@ fn timer(bank: &Bank) -> Timer
 
 // A field of all places.
 fn column(bank: &Bank, field: usize) -> [u32; 192]
-    ensures { Filled (fieldIn bank.now field) 192 result }
+    ensures { Filled (field_in bank.now field) 192 result }
 {
     let mut all = [0u32; 192];
     let mut i = 0;
@@ -59,7 +59,7 @@ fn column(bank: &Bank, field: usize) -> [u32; 192]
 
 // The send times of all places.
 fn times(bank: &Bank) -> [u64; 192]
-    ensures { Filled (timeIn bank.now) 192 result }
+    ensures { Filled (time_in bank.now) 192 result }
 {
     let mut all = [0u64; 192];
     let mut i = 0;

@@ -4,15 +4,15 @@
 ghost use Rattle.std.specs.Prelude.{◌≡◌, [], length};
 ghost use Rattle.packet_read.specs.Reading.{read_of};
 ghost use Rattle.receiver_state.specs.Start.{start_of};
-ghost use Rattle.receiver_calls.specs.Accept.{acceptOf};
+ghost use Rattle.receiver_calls.specs.Accept.{accept_of};
 ghost use Rattle.receiver_calls.specs.Take.{take_of};
-ghost use Rattle.receiver_ack.specs.Acknowledge.{acknowledgeOf};
-ghost use Rattle.receiver_why.specs.Reasons.{whyOf};
-ghost use Rattle.host_numbers.specs.Numbers.{forHost, startForHost, with_number, withCount, ackForHost, withOutput, standOf};
-ghost use Rattle.host_numbers.specs.Fields.{hostedRead};
-ghost use Rattle.serial_state.specs.Start.{lineStart};
-ghost use Rattle.serial_feed.specs.Feed.{feedOf};
-ghost use Rattle.host_serial.specs.Line.{hostedFeed, hostFed};
+ghost use Rattle.receiver_ack.specs.Acknowledge.{acknowledge_of};
+ghost use Rattle.receiver_why.specs.Reasons.{why_of};
+ghost use Rattle.host_numbers.specs.Numbers.{for_host, start_for_host, with_number, with_count, ack_for_host, with_output, stand_of};
+ghost use Rattle.host_numbers.specs.Fields.{hosted_read};
+ghost use Rattle.serial_state.specs.Start.{line_start};
+ghost use Rattle.serial_feed.specs.Feed.{feed_of};
+ghost use Rattle.host_serial.specs.Line.{hosted_feed, host_fed};
 
 use host_numbers::{Counted, Fields, Stand};
 use host_serial::LineHeard;
@@ -24,7 +24,7 @@ use terms::{SeqNo, StreamId};
 // Reads a packet: `packet_read::read`.
 #[unsafe(no_mangle)]
 pub extern "C" fn digitmeadow_read(packet: &[u8]) -> Fields
-    ensures { result ≡ hostedRead (read_of packet.now) }
+    ensures { result ≡ hosted_read (read_of packet.now) }
 {
     match packet_read::read(packet) {
         Reading::Read(p) => host_numbers::of_packet(p),
@@ -35,7 +35,7 @@ pub extern "C" fn digitmeadow_read(packet: &[u8]) -> Fields
 // Starts a receiver after the number s: `receiver_state::start`, into the state that is lent, which a refused start leaves as it was.
 #[unsafe(no_mangle)]
 pub extern "C" fn digitmeadow_start(r: &mut Receiver, s: SeqNo, slot: u32, store: &[u8]) -> u32
-    ensures { with_number result r.new [] ≡ startForHost r.old (start_of s slot (length store.now)) }
+    ensures { with_number result r.new [] ≡ start_for_host r.old (start_of s slot (length store.now)) }
 {
     let b = host_numbers::begin(*r, s, slot, store);
     *r = b.state;
@@ -51,7 +51,7 @@ pub extern "C" fn digitmeadow_accept(
     store: &mut [u8],
 ) -> u32
     ensures { with_number result r.new store.new
-        ≡ forHost (acceptOf r.old number payload.now store.old) }
+        ≡ for_host (accept_of r.old number payload.now store.old) }
 {
     let answer = receiver_in_place::accept_lent(r, number, payload, store);
     host_numbers::of_answer(answer)
@@ -60,7 +60,7 @@ pub extern "C" fn digitmeadow_accept(
 // Takes the next payload, if it is held: `receiver_in_place::take_lent`.
 #[unsafe(no_mangle)]
 pub extern "C" fn digitmeadow_take(r: &mut Receiver, store: &[u8], output: &mut [u8]) -> Counted
-    ensures { withCount result r.new output.new ≡ forHost (take_of r.old store.now output.old) }
+    ensures { with_count result r.new output.new ≡ for_host (take_of r.old store.now output.old) }
 {
     let answer = receiver_in_place::take_lent(r, store, output);
     host_numbers::of_given(answer)
@@ -74,7 +74,7 @@ pub extern "C" fn digitmeadow_acknowledge(
     recv: StreamId,
     output: &mut [u8],
 ) -> Counted
-    ensures { withOutput result output.new ≡ ackForHost (acknowledgeOf r.now send recv output.old) }
+    ensures { with_output result output.new ≡ ack_for_host (acknowledge_of r.now send recv output.old) }
 {
     host_numbers::acknowledgement(*r, send, recv, output)
 }
@@ -82,7 +82,7 @@ pub extern "C" fn digitmeadow_acknowledge(
 // Says why a piece is not delivered: `receiver_why::why`.
 #[unsafe(no_mangle)]
 pub extern "C" fn digitmeadow_why(r: &Receiver, number: SeqNo) -> Stand
-    ensures { result ≡ standOf (whyOf r.now number) }
+    ensures { result ≡ stand_of (why_of r.now number) }
 {
     host_numbers::why(*r, number)
 }
@@ -90,7 +90,7 @@ pub extern "C" fn digitmeadow_why(r: &Receiver, number: SeqNo) -> Stand
 // Starts a reader of packets on a serial line, over a buffer of any length: `serial_state::start`.
 #[unsafe(no_mangle)]
 pub extern "C" fn digitmeadow_line_start(buffer: &[u8]) -> LineReader
-    ensures { result ≡ lineStart buffer.now }
+    ensures { result ≡ line_start buffer.now }
 {
     serial_state::start(buffer)
 }
@@ -102,7 +102,7 @@ pub extern "C" fn digitmeadow_line_feed(
     portion: &[u8],
     buffer: &mut [u8],
 ) -> LineHeard
-    ensures { hostFed result buffer.new ≡ hostedFeed (feedOf r portion.now buffer.old) }
+    ensures { host_fed result buffer.new ≡ hosted_feed (feed_of r portion.now buffer.old) }
 {
     host_serial::feed(r, portion, buffer)
 }

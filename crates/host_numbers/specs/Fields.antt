@@ -2,7 +2,7 @@
 -- and every part empty.
 use Rattle.std.specs.Prelude.{ℕ}
 use Rattle.terms.specs.Answers.{Saying, refusal, values}
-use Rattle.packet_read.specs.Reading.{noFields}
+use Rattle.packet_read.specs.Reading.{no_fields}
 use Rattle.packet_read.specs.declared.Packet.{Packet}
 use Rattle.packet_read.specs.declared.Span.{Span}
 use Rattle.host_numbers.specs.declared.Part.{Part}
@@ -11,8 +11,8 @@ use Rattle.host_numbers.specs.declared.Fields.{Fields}
 abbrev pub part_of : Span → Part
 part_of s = record { at = s.at; len = s.len }
 
-abbrev pub hostedPacket : ℕ → Packet → Fields
-hostedPacket number p = record {
+abbrev pub hosted_packet : ℕ → Packet → Fields
+hosted_packet number p = record {
   refusal = number;
   send_stream_id = p.send_stream_id;
   recv_stream_id = p.recv_stream_id;
@@ -29,6 +29,6 @@ hostedPacket number p = record {
   payload = part_of p.payload;
 }
 
-abbrev pub hostedRead : Saying Packet → Fields
-hostedRead (refusal number) = hostedPacket number noFields
-hostedRead (values p) = hostedPacket 0 p
+abbrev pub hosted_read : Saying Packet → Fields
+hosted_read (refusal number) = hosted_packet number no_fields
+hosted_read (values p) = hosted_packet 0 p

@@ -3,10 +3,10 @@
 ghost use Rattle.std.specs.Prelude.{◌≡◌, [], length};
 ghost use Rattle.terms.specs.Answers.{refusal, values, said, said_of};
 ghost use Rattle.receiver_state.specs.Start.{start_of};
-ghost use Rattle.receiver_ack.specs.Acknowledge.{saidAck, acknowledgeOf};
-ghost use Rattle.receiver_why.specs.Reasons.{saidWhy, whyOf};
-ghost use Rattle.host_numbers.specs.Numbers.{inNumbers, startForHost, with_number, ackForHost, withOutput, standOf};
-ghost use Rattle.host_numbers.specs.Fields.{part_of, hostedRead};
+ghost use Rattle.receiver_ack.specs.Acknowledge.{said_ack, acknowledge_of};
+ghost use Rattle.receiver_why.specs.Reasons.{said_why, why_of};
+ghost use Rattle.host_numbers.specs.Numbers.{in_numbers, start_for_host, with_number, ack_for_host, with_output, stand_of};
+ghost use Rattle.host_numbers.specs.Fields.{part_of, hosted_read};
 
 use packet_read::{Packet, Span};
 use receiver_ack::Acknowledged;
@@ -61,7 +61,7 @@ pub struct Fields {
 
 // What an answer is in numbers.
 pub fn of_answer(a: Answer) -> u32
-    ensures { result ≡ (inNumbers (said a)).refusal }
+    ensures { result ≡ (in_numbers (said a)).refusal }
 {
     match a {
         Answer::Done => 0,
@@ -70,7 +70,7 @@ pub fn of_answer(a: Answer) -> u32
 }
 
 pub fn of_given(g: Given) -> Counted
-    ensures { result ≡ inNumbers (said_of g) }
+    ensures { result ≡ in_numbers (said_of g) }
 {
     match g {
         Given::Bytes(size) => Counted {
@@ -85,7 +85,7 @@ pub fn of_given(g: Given) -> Counted
 }
 
 fn of_acknowledged(a: Acknowledged) -> Counted
-    ensures { result ≡ inNumbers (saidAck a) }
+    ensures { result ≡ in_numbers (said_ack a) }
 {
     match a {
         Acknowledged::Written(length) => Counted {
@@ -110,7 +110,7 @@ fn of_span(s: Span) -> Part
 
 // The record of a packet that was read.
 pub fn of_packet(p: Packet) -> Fields
-    ensures { result ≡ hostedRead (values p) }
+    ensures { result ≡ hosted_read (values p) }
 {
     let nacks = of_span(p.nacks);
     let destination = of_span(p.destination);
@@ -140,7 +140,7 @@ pub fn of_packet(p: Packet) -> Fields
 
 // The record of a refused read.
 pub fn of_refusal(number: u32) -> Fields
-    ensures { result ≡ hostedRead (refusal number) }
+    ensures { result ≡ hosted_read (refusal number) }
 {
     let none = Part { at: 0, len: 0 };
     let stream = StreamId(0);
@@ -172,7 +172,7 @@ pub struct Begun {
 
 // The state that is started, or where the start is refused the one that was given.
 pub fn begin(r: Receiver, s: SeqNo, slot: u32, store: &[u8]) -> Begun
-    ensures { with_number result.refusal result.state [] ≡ startForHost r (start_of s slot (length store.now)) }
+    ensures { with_number result.refusal result.state [] ≡ start_for_host r (start_of s slot (length store.now)) }
 {
     let started = receiver_state::start(s, slot, store);
     let answer = started.answer;
@@ -190,7 +190,7 @@ pub fn begin(r: Receiver, s: SeqNo, slot: u32, store: &[u8]) -> Begun
 }
 
 pub fn acknowledgement(r: Receiver, send: StreamId, recv: StreamId, output: &mut [u8]) -> Counted
-    ensures { withOutput result output.new ≡ ackForHost (acknowledgeOf r send recv output.old) }
+    ensures { with_output result output.new ≡ ack_for_host (acknowledge_of r send recv output.old) }
 {
     let answer = receiver_ack::acknowledge(r, send, recv, output);
     of_acknowledged(answer)
@@ -208,7 +208,7 @@ fn case(reason: u32, smallest: SeqNo) -> Stand
 }
 
 fn of_reason(a: Reason) -> Stand
-    ensures { result ≡ standOf (saidWhy a) }
+    ensures { result ≡ stand_of (said_why a) }
 {
     let none = SeqNo(0);
     match a {
@@ -230,7 +230,7 @@ fn of_reason(a: Reason) -> Stand
 
 // Where a number stands in a receiver, in these numbers.
 pub fn why(r: Receiver, n: SeqNo) -> Stand
-    ensures { result ≡ standOf (whyOf r n) }
+    ensures { result ≡ stand_of (why_of r n) }
 {
     let answer = receiver_why::why(r, n);
     of_reason(answer)

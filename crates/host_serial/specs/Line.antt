@@ -6,17 +6,17 @@ use Rattle.serial_feed.specs.Feed.{Feeds}
 use Rattle.host_serial.specs.declared.LineHeard.{LineHeard}
 
 -- no refusal's number is 0, and no packet's length
-abbrev pub lineHeard : Said → ℕ → LineReader → LineHeard
-lineHeard (refusal number) used reader = record { reader = reader; refusal = number; length = 0; used = used }
-lineHeard (values []) used reader = record { reader = reader; refusal = 0; length = 0; used = used }
-lineHeard (values (size ∷ none)) used reader = record { reader = reader; refusal = 0; length = size; used = used }
+abbrev pub line_heard : Said → ℕ → LineReader → LineHeard
+line_heard (refusal number) used reader = record { reader = reader; refusal = number; length = 0; used = used }
+line_heard (values []) used reader = record { reader = reader; refusal = 0; length = 0; used = used }
+line_heard (values (size ∷ none)) used reader = record { reader = reader; refusal = 0; length = size; used = used }
 
 pub record HostedFeed : Type 0 where
   pub heard : LineHeard
   pub buffer : List ℕ
 
-abbrev pub hostedFeed : Feeds → HostedFeed
-hostedFeed f = record { heard = lineHeard f.says f.used f.state; buffer = f.buffer }
+abbrev pub hosted_feed : Feeds → HostedFeed
+hosted_feed f = record { heard = line_heard f.says f.used f.state; buffer = f.buffer }
 
-abbrev pub hostFed : LineHeard → List ℕ → HostedFeed
-hostFed heard buffer = record { heard = heard; buffer = buffer }
+abbrev pub host_fed : LineHeard → List ℕ → HostedFeed
+host_fed heard buffer = record { heard = heard; buffer = buffer }

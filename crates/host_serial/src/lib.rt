@@ -1,7 +1,7 @@
 // What feeding a serial line's reader gives a host in C, which knows numbers and no enum. The exported calls are in `host_library`.
 ghost use Rattle.std.specs.Prelude.{◌≡◌};
-ghost use Rattle.serial_feed.specs.Feed.{heardSaid, feedOf};
-ghost use Rattle.host_serial.specs.Line.{lineHeard, hostedFeed, hostFed};
+ghost use Rattle.serial_feed.specs.Feed.{heard_said, feed_of};
+ghost use Rattle.host_serial.specs.Line.{line_heard, hosted_feed, host_fed};
 
 use serial_feed::Heard;
 use serial_state::LineReader;
@@ -18,7 +18,7 @@ pub struct LineHeard {
 }
 
 fn of_heard(answer: Heard, used: usize, reader: LineReader) -> LineHeard
-    ensures { result ≡ lineHeard (heardSaid answer) used reader }
+    ensures { result ≡ line_heard (heard_said answer) used reader }
 {
     match answer {
         Heard::Packet(size) => LineHeard {
@@ -44,7 +44,7 @@ fn of_heard(answer: Heard, used: usize, reader: LineReader) -> LineHeard
 
 // `serial_feed::feed`, in numbers.
 pub fn feed(r: LineReader, portion: &[u8], buffer: &mut [u8]) -> LineHeard
-    ensures { hostFed result buffer.new ≡ hostedFeed (feedOf r portion.now buffer.old) }
+    ensures { host_fed result buffer.new ≡ hosted_feed (feed_of r portion.now buffer.old) }
 {
     let done = serial_feed::feed(r, portion, buffer);
     let answer = done.answer;

@@ -4,38 +4,38 @@ use Rattle.std.specs.Prelude.{ℕ, ◌≤◌, Bool, not, List, [], ◌∷◌, eq
 use Rattle.terms.specs.Ladder.{◌when◌else◌}
 
 pub record Kind : Type 0 where
-  pub type-is : ℕ
-  pub signature-long : ℕ
-  pub key-long : ℕ
+  pub type_is : ℕ
+  pub signature_long : ℕ
+  pub key_long : ℕ
 
 abbrev kind : ℕ → ℕ → ℕ → Kind
-kind n signature key = record { type-is = n; signature-long = signature; key-long = key }
+kind n signature key = record { type_is = n; signature_long = signature; key_long = key }
 
 unfoldable pub kinds : List Kind
 kinds = kind 0 40 128 ∷ kind 1 64 64 ∷ kind 2 96 96 ∷ kind 3 132 132 ∷ kind 7 64 32 ∷ kind 11 64 32 ∷ []
 
 -- what the list says of a type, 0 for one that is not listed
-abbrev pub lookedUp : (Kind → ℕ) → List Kind → ℕ → ℕ
-lookedUp asked [] n = 0
-lookedUp asked (k ∷ ks) n = asked k when eqb k.type-is n else lookedUp asked ks n
+abbrev pub looked_up : (Kind → ℕ) → List Kind → ℕ → ℕ
+looked_up asked [] n = 0
+looked_up asked (k ∷ ks) n = asked k when eqb k.type_is n else looked_up asked ks n
 
-unfoldable pub signatureLength : ℕ → ℕ
+unfoldable pub signature_length : ℕ → ℕ
 unfolding kinds
-signatureLength n = lookedUp (λ (k : Kind). k.signature-long) kinds n
+signature_length n = looked_up (λ (k : Kind). k.signature_long) kinds n
 
-unfoldable pub keyLength : ℕ → ℕ
+unfoldable pub key_length : ℕ → ℕ
 unfolding kinds
-keyLength n = lookedUp (λ (k : Kind). k.key-long) kinds n
+key_length n = looked_up (λ (k : Kind). k.key_long) kinds n
 
 -- a type that is not listed has no length
-abbrev pub isListed : ℕ → Bool
-isListed n = not (eqb (signatureLength n) 0)
+abbrev pub is_listed : ℕ → Bool
+is_listed n = not (eqb (signature_length n) 0)
 
 -- What holds of every type: its lengths are at most 132, and where it is listed, its signature has at least 40 bytes and its key at least 32.
 pub record Bounded (n : ℕ) : Type 0 where
-  pub signature-most : signatureLength n ≤ 132
-  pub key-most : keyLength n ≤ 132
+  pub signature_most : signature_length n ≤ 132
+  pub key_most : key_length n ≤ 132
 
 pub record Listed (n : ℕ) : Type 0 where
-  pub signature-least : 40 ≤ signatureLength n
-  pub key-least : 32 ≤ keyLength n
+  pub signature_least : 40 ≤ signature_length n
+  pub key_least : 32 ≤ key_length n

@@ -3,16 +3,16 @@ use Prim.Native.Nat.{ℕ}
 use mathlib.Core.Path.{◌≡◌}
 use mathlib.Core.List.{List}
 use Rattle.terms.proofs.Determined.{determined}
-use Rattle.packet_read.specs.Reading.{nacksOf, destinationOf, signature_of, payloadOf}
+use Rattle.packet_read.specs.Reading.{nacks_of, destination_of, signature_of, payload_of}
 
-pub nacks-determined : (packet a b : List ℕ) → a ≡ nacksOf packet → b ≡ nacksOf packet → a ≡ b
-nacks-determined packet a b p q = determined p q
+pub nacks_determined : (packet a b : List ℕ) → a ≡ nacks_of packet → b ≡ nacks_of packet → a ≡ b
+nacks_determined packet a b p q = determined p q
 
-pub destination-determined : (packet a b : List ℕ) → a ≡ destinationOf packet → b ≡ destinationOf packet → a ≡ b
-destination-determined packet a b p q = determined p q
+pub destination_determined : (packet a b : List ℕ) → a ≡ destination_of packet → b ≡ destination_of packet → a ≡ b
+destination_determined packet a b p q = determined p q
 
-pub signature-determined : (packet a b : List ℕ) → a ≡ signature_of packet → b ≡ signature_of packet → a ≡ b
-signature-determined packet a b p q = determined p q
+pub signature_determined : (packet a b : List ℕ) → a ≡ signature_of packet → b ≡ signature_of packet → a ≡ b
+signature_determined packet a b p q = determined p q
 
-pub payload-determined : (packet a b : List ℕ) → a ≡ payloadOf packet → b ≡ payloadOf packet → a ≡ b
-payload-determined packet a b p q = determined p q
+pub payload_determined : (packet a b : List ℕ) → a ≡ payload_of packet → b ≡ payload_of packet → a ≡ b
+payload_determined packet a b p q = determined p q

@@ -3,12 +3,12 @@ use Rattle.std.specs.Prelude.{ℕ, ◌+◌, ◌≤◌, List, length}
 use Rattle.packet_read.specs.declared.Packet.{Packet}
 use Rattle.packet_read.specs.declared.Span.{Span}
 
-abbrev pub spanEnd : Span → ℕ
-spanEnd s = s.at + s.len
+abbrev pub span_end : Span → ℕ
+span_end s = s.at + s.len
 
 -- of the packet p, the parts that v names
 pub record Laid (p : List ℕ) (v : Packet) : Type 0 where
-  pub nacks-first : spanEnd v.nacks ≤ v.destination.at
-  pub then-destination : spanEnd v.destination ≤ v.signature.at
-  pub then-signature : spanEnd v.signature + v.leftover ≤ v.payload.at
-  pub then-payload : spanEnd v.payload ≤ length p
+  pub nacks_first : span_end v.nacks ≤ v.destination.at
+  pub then_destination : span_end v.destination ≤ v.signature.at
+  pub then_signature : span_end v.signature + v.leftover ≤ v.payload.at
+  pub then_payload : span_end v.payload ≤ length p

@@ -1,7 +1,7 @@
 // The parts of a packet: NACKs, destination, signature and payload, each as the bytes of the packet itself, where `packet_read::read` says that they
 // stand.
 ghost use Rattle.std.specs.Prelude.{◌≡◌, ◌+◌, ◌≤◌, length};
-ghost use Rattle.packet_read.specs.Reading.{fields_of, spanned, payloadOf, nacksOf, destinationOf, signature_of};
+ghost use Rattle.packet_read.specs.Reading.{fields_of, spanned, payload_of, nacks_of, destination_of, signature_of};
 
 use packet_read::{Packet, Reading, Span};
 use terms::{SeqNo, StreamId};
@@ -42,7 +42,7 @@ fn part(packet: &[u8], span: Span) -> &[u8]
 
 // The NACKs, four bytes each, as they stand in the packet.
 pub fn nacks(packet: &[u8]) -> &[u8]
-    ensures { result.now ≡ nacksOf packet.now }
+    ensures { result.now ≡ nacks_of packet.now }
 {
     let p = fields_or_none(packet);
     let span = p.nacks;
@@ -51,7 +51,7 @@ pub fn nacks(packet: &[u8]) -> &[u8]
 
 // The destination, empty where there is none or the read is refused.
 pub fn destination(packet: &[u8]) -> &[u8]
-    ensures { result.now ≡ destinationOf packet.now }
+    ensures { result.now ≡ destination_of packet.now }
 {
     let p = fields_or_none(packet);
     let span = p.destination;
@@ -69,7 +69,7 @@ pub fn signature(packet: &[u8]) -> &[u8]
 
 // The payload, empty where there is none or the read is refused.
 pub fn payload(packet: &[u8]) -> &[u8]
-    ensures { result.now ≡ payloadOf packet.now }
+    ensures { result.now ≡ payload_of packet.now }
 {
     let p = fields_or_none(packet);
     let span = p.payload;

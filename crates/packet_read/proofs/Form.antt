@@ -9,36 +9,36 @@ use lib.Dec.{leb, ltb, eqb}
 use Rattle.terms.specs.Answers.{values}
 use Rattle.terms.specs.Ladder.{◌when◌else◌}
 use Rattle.terms.proofs.Laws.{past, and_left, and_right}
-use Rattle.packet_keys.specs.Kinds.{signatureLength, isListed}
-use Rattle.packet_read.specs.Destination.{certificateType, certificateLength, signingType, formFits, keyFits, Whole, destinationIn}
-use Rattle.packet_read.specs.Options.{noDestination}
+use Rattle.packet_keys.specs.Kinds.{signature_length, is_listed}
+use Rattle.packet_read.specs.Destination.{certificate_type, certificate_length, signing_type, form_fits, key_fits, Whole, destination_in}
+use Rattle.packet_read.specs.Options.{no_destination}
 
 pub record Form (p : List ℕ) (at end : ℕ) (d : Whole) : Type 0 where
-  pub form-fits : formFits (certificateType p at) (certificateLength p at) ≡ true
+  pub form_fits_lem : form_fits (certificate_type p at) (certificate_length p at) ≡ true
   pub fits : at + d.size ≤ end
-  pub key_fits : keyFits (signingType p at) (certificateLength p at) ≡ true
-  pub is : d ≡ record { size = 387 + certificateLength p at; signs = signatureLength (signingType p at) }
+  pub key_fits : key_fits (signing_type p at) (certificate_length p at) ≡ true
+  pub is : d ≡ record { size = 387 + certificate_length p at; signs = signature_length (signing_type p at) }
 
-pub whole-form : (p : List ℕ) (at end : ℕ) (d : Whole) → destinationIn p at end ≡ values d → Form p at end d
-unfolding destinationIn
-whole-form p at end d h =
-    let l = certificateLength p at in
+pub whole_form : (p : List ℕ) (at end : ℕ) (d : Whole) → destination_in p at end ≡ values d → Form p at end d
+unfolding destination_in
+whole_form p at end d h =
+    let l = certificate_length p at in
     let a = past 3 (ltb end (at + 387)) _ d h in
-    let b = past 4 (not (formFits (certificateType p at) l)) _ d a.1 in
+    let b = past 4 (not (form_fits (certificate_type p at) l)) _ d a.1 in
     let c = past 3 (ltb end (at + (387 + l))) _ d b.1 in
-    let e = past 4 (not (keyFits (signingType p at) l)) _ d c.1 in
-    let s : ◌≡◌ {A = Whole} (record { size = 387 + l; signs = signatureLength (signingType p at) }) d = cc e.1 in
+    let e = past 4 (not (key_fits (signing_type p at) l)) _ d c.1 in
+    let s : ◌≡◌ {A = Whole} (record { size = 387 + l; signs = signature_length (signing_type p at) }) d = cc e.1 in
     let long : 387 + l ≡ d.size = ap (λ (x : Whole). x.size) s in
     record {
-      form-fits = not-false _ b.0;
+      form_fits_lem = not-false _ b.0;
       fits = omega (arith, long, ltb-false end (at + (387 + l)) c.0);
       key_fits = not-false _ e.0;
       is = sym s;
     }
 
 -- with certificate type 5 the key type is there
-pub form-long : (c l : ℕ) → formFits c l ≡ true → eqb c 5 ≡ true → 4 ≤ l
-form-long c l h five =
+pub form_long : (c l : ℕ) → form_fits c l ≡ true → eqb c 5 ≡ true → 4 ≤ l
+form_long c l h five =
     let e : c ≡ 5 = eqb-true c 5 five in
     let z : eqb c 0 ≡ false = ne_eqb c 0 (λ n. omega arith) in
     let t : (eqb c 5 && leb 4 l) ≡ true = rw z at h in
@@ -47,17 +47,17 @@ form-long c l h five =
 -- its signatures have some length
 pub signs-some : (p : List ℕ) (at end : ℕ) (d : Whole) → Form p at end d → d.signs ≡ 0 → ⊥
 signs-some p at end d f e =
-    let n = signatureLength (signingType p at) in
+    let n = signature_length (signing_type p at) in
     let z : n ≡ 0 = sym (ap (λ (x : Whole). x.signs) f.is) ∙ e in
-    let l : not (eqb n 0) ≡ true = and_left (isListed (signingType p at)) (not (eqb (signingType p at) 3) || leb 8 (certificateLength p at)) f.key_fits in
+    let l : not (eqb n 0) ≡ true = and_left (is_listed (signing_type p at)) (not (eqb (signing_type p at) 3) || leb 8 (certificate_length p at)) f.key_fits in
     let t : false ≡ true = rw (eq-eqb n 0 z) at l in
     let o : ◌≡◌ {A = ℕ} 0 1 = cc in
     omega arith
 
 -- with the bit clear it is absent, and lies inside its area too
-pub size-inside : (p : List ℕ) (at end : ℕ) (d : Whole) (from : Bool) → at ≤ end → (destinationIn p at end when from else values noDestination) ≡ values d → at + d.size ≤ end
-size-inside p at end d true o h = (whole-form p at end d h).fits
+pub size-inside : (p : List ℕ) (at end : ℕ) (d : Whole) (from : Bool) → at ≤ end → (destination_in p at end when from else values no_destination) ≡ values d → at + d.size ≤ end
+size-inside p at end d true o h = (whole_form p at end d h).fits
 size-inside p at end d false o h =
-    let s : noDestination ≡ d = cc h in
+    let s : no_destination ≡ d = cc h in
     let z : 0 ≡ d.size = ap (λ (x : Whole). x.size) s in
     omega arith

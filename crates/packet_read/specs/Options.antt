@@ -5,68 +5,68 @@ use Rattle.terms.specs.Answers.{Saying, refusal, values}
 use Rattle.terms.specs.Ladder.{◌when◌else◌}
 use Rattle.terms.specs.Refusals.{number_of}
 use Rattle.wire.specs.BigEndian.{number_at}
-use Rattle.packet_read.specs.Going.{◌andThen◌}
+use Rattle.packet_read.specs.Going.{◌and_then◌}
 use Rattle.packet_read.specs.Flags.{bit}
-use Rattle.packet_read.specs.Destination.{Whole, destinationIn}
+use Rattle.packet_read.specs.Destination.{Whole, destination_in}
 use Rattle.packet_read.specs.declared.Found.{Found}
 use Rattle.packet_read.specs.declared.Options.{Options}
 use Rattle.packet_read.specs.declared.Options.TheVariants as O
 
 -- what an answer says
-abbrev pub saidOptions : Options → Saying Found
-saidOptions (O.Refused r) = refusal (number_of r)
-saidOptions (O.Found found) = values found
+abbrev pub said_options : Options → Saying Found
+said_options (O.Refused r) = refusal (number_of r)
+said_options (O.Found found) = values found
 
 -- an option area that starts at `at`
 module _ (at flags : ℕ) where
-  abbrev pub destinationAt : ℕ
-  destinationAt = at + (2 when bit 6 flags else 0)
+  abbrev pub destination_at : ℕ
+  destination_at = at + (2 when bit 6 flags else 0)
 
   -- after a destination of `size` bytes
-  abbrev pub maxAt : ℕ → ℕ
-  maxAt size = destinationAt + size
+  abbrev pub max_at : ℕ → ℕ
+  max_at size = destination_at + size
 
-  abbrev pub signatureAt : ℕ → ℕ
-  signatureAt size = maxAt size + (2 when bit 7 flags else 0)
+  abbrev pub signature_at : ℕ → ℕ
+  signature_at size = max_at size + (2 when bit 7 flags else 0)
 
-abbrev pub noDestination : Whole
-noDestination = record { size = 0; signs = 0 }
+abbrev pub no_destination : Whole
+no_destination = record { size = 0; signs = 0 }
 
 -- of the packet p, up to `end`
 module _ (p : List ℕ) (at end flags : ℕ) where
   -- the destination, or that of no byte where it is absent
-  abbrev pub destinationThere : Saying Whole
-  destinationThere = destinationIn p (destinationAt at flags) end when bit 5 flags else values noDestination
+  abbrev pub destination_there : Saying Whole
+  destination_there = destination_in p (destination_at at flags) end when bit 5 flags else values no_destination
 
   -- what follows the destination d
   module _ (d : Whole) where
     -- as long as its signatures are; without a destination, all the option bytes that remain
-    abbrev pub signatureSize : ℕ
-    signatureSize = (d.signs when bit 5 flags else (end - signatureAt at flags d.size)) when bit 3 flags else 0
+    abbrev pub signature_size : ℕ
+    signature_size = (d.signs when bit 5 flags else (end - signature_at at flags d.size)) when bit 3 flags else 0
 
     abbrev pub found : Found
     found = record {
       delay = number_at 2 at p when bit 6 flags else 0;
-      destination = record { at = destinationAt at flags; len = d.size };
-      max_size = number_at 2 (maxAt at flags d.size) p when bit 7 flags else 0;
-      signature = record { at = signatureAt at flags d.size; len = signatureSize };
-      leftover = end - (signatureAt at flags d.size + signatureSize);
+      destination = record { at = destination_at at flags; len = d.size };
+      max_size = number_at 2 (max_at at flags d.size) p when bit 7 flags else 0;
+      signature = record { at = signature_at at flags d.size; len = signature_size };
+      leftover = end - (signature_at at flags d.size + signature_size);
     }
 
-    unfoldable pub afterDestination : Saying Found
-    afterDestination =
+    unfoldable pub after_destination : Saying Found
+    after_destination =
         -- option area ends inside the maximum size
-        refusal 3 when ltb end (signatureAt at flags d.size) else
+        refusal 3 when ltb end (signature_at at flags d.size) else
         -- bit 11 without bit 5
         refusal 5 when bit 11 flags && not (bit 5 flags) else
         -- bit 11 with bit 5
         refusal 6 when bit 11 flags && bit 5 flags else
         -- option area ends inside the signature
-        refusal 3 when ltb end (signatureAt at flags d.size + signatureSize) else
+        refusal 3 when ltb end (signature_at at flags d.size + signature_size) else
         values found
 
-  unfoldable pub optionsIn : Saying Found
-  optionsIn =
+  unfoldable pub options_in : Saying Found
+  options_in =
       -- option area ends inside the delay
-      refusal 3 when ltb end (destinationAt at flags) else
-      (destinationThere and_then afterDestination)
+      refusal 3 when ltb end (destination_at at flags) else
+      (destination_there and_then after_destination)

@@ -3,17 +3,17 @@ use Rattle.std.specs.Prelude.{ℕ, ◌+◌, ◌*◌, ◌≡◌, List, drop}
 use Rattle.terms.specs.Answers.{values}
 use Rattle.terms.specs.Lists.{part}
 use Rattle.packet_read.specs.Destination.{Whole}
-use Rattle.packet_read.specs.Options.{destinationAt, maxAt, signatureAt, destinationThere, signatureSize}
-use Rattle.packet_read.specs.Reading.{nackCount, flags_of, optionsAt, optionsEnd, nacksOf, destinationOf, signature_of, payloadOf}
+use Rattle.packet_read.specs.Options.{destination_at, max_at, signature_at, destination_there, signature_size}
+use Rattle.packet_read.specs.Reading.{nack_count, flags_of, options_at, options_end, nacks_of, destination_of, signature_of, payload_of}
 use Rattle.packet_read.specs.declared.Packet.{Packet}
 
 -- of the packet p, that is read with the fields v, and whose destination is d
 pub record PartsAre (p : List ℕ) (v : Packet) : Type 0 where
-  pub nacks-are : nacksOf p ≡ part p 17 (17 + 4 * nackCount p)
+  pub nacks_are : nacks_of p ≡ part p 17 (17 + 4 * nack_count p)
   pub d : Whole
-  pub found-there : destinationThere p (optionsAt p) (optionsEnd p) (flags_of p) ≡ values d
-  pub destination-is : destinationOf p ≡ part p (destinationAt (optionsAt p) (flags_of p)) (maxAt (optionsAt p) (flags_of p) d.size)
-  pub signature-is : signature_of p
-      ≡ part p (signatureAt (optionsAt p) (flags_of p) d.size)
-      (signatureAt (optionsAt p) (flags_of p) d.size + signatureSize p (optionsAt p) (optionsEnd p) (flags_of p) d)
-  pub payload-is : payloadOf p ≡ drop (optionsEnd p) p
+  pub found_there : destination_there p (options_at p) (options_end p) (flags_of p) ≡ values d
+  pub destination_is : destination_of p ≡ part p (destination_at (options_at p) (flags_of p)) (max_at (options_at p) (flags_of p) d.size)
+  pub signature_is : signature_of p
+      ≡ part p (signature_at (options_at p) (flags_of p) d.size)
+      (signature_at (options_at p) (flags_of p) d.size + signature_size p (options_at p) (options_end p) (flags_of p) d)
+  pub payload_is : payload_of p ≡ drop (options_end p) p

@@ -4,9 +4,9 @@ use Rattle.std.specs.Prelude.{ℕ, ◌+◌, ◌-◌, ◌*◌, ◌/◌, List, ltb
 use Rattle.terms.specs.Answers.{Saying, refusal, values}
 use Rattle.terms.specs.Ladder.{◌when◌else◌}
 use Rattle.terms.specs.Refusals.{number_of}
-use Rattle.wire.specs.BigEndian.{number_at, numbersAt}
-use Rattle.packet_read.specs.Going.{◌andThen◌}
-use Rattle.packet_read.specs.Options.{optionsIn}
+use Rattle.wire.specs.BigEndian.{number_at, numbers_at}
+use Rattle.packet_read.specs.Going.{◌and_then◌}
+use Rattle.packet_read.specs.Options.{options_in}
 use Rattle.packet_read.specs.declared.Span.{Span}
 use Rattle.packet_read.specs.declared.Packet.{Packet}
 use Rattle.packet_read.specs.declared.Found.{Found}
@@ -14,27 +14,27 @@ use Rattle.packet_read.specs.declared.Reading.{Reading}
 use Rattle.packet_read.specs.declared.Reading.TheVariants as R
 
 -- what an answer says
-abbrev pub saidReading : Reading → Saying Packet
-saidReading (R.Refused r) = refusal (number_of r)
-saidReading (R.Read p) = values p
+abbrev pub said_reading : Reading → Saying Packet
+said_reading (R.Refused r) = refusal (number_of r)
+said_reading (R.Read p) = values p
 
 -- n
-abbrev pub nackCount : List ℕ → ℕ
-nackCount p = number_at 1 16 p
+abbrev pub nack_count : List ℕ → ℕ
+nack_count p = number_at 1 16 p
 
 abbrev pub flags_of : List ℕ → ℕ
-flags_of p = number_at 2 (18 + 4 * nackCount p) p
+flags_of p = number_at 2 (18 + 4 * nack_count p) p
 
-abbrev pub optionsAt : List ℕ → ℕ
-optionsAt p = 22 + 4 * nackCount p
+abbrev pub options_at : List ℕ → ℕ
+options_at p = 22 + 4 * nack_count p
 
 -- 22 + 4n + o
-abbrev pub optionsEnd : List ℕ → ℕ
-optionsEnd p = optionsAt p + number_at 2 (20 + 4 * nackCount p) p
+abbrev pub options_end : List ℕ → ℕ
+options_end p = options_at p + number_at 2 (20 + 4 * nack_count p) p
 
 -- the fields of a packet with n NACKs, whose option area ends at `end`
-abbrev pub fieldsRead : List ℕ → ℕ → ℕ → ℕ → Found → Packet
-fieldsRead p n end flags found = record {
+abbrev pub fields_read : List ℕ → ℕ → ℕ → ℕ → Found → Packet
+fields_read p n end flags found = record {
   send_stream_id = record { 0 = number_at 4 0 p };
   recv_stream_id = record { 0 = number_at 4 4 p };
   seq_nro = record { 0 = number_at 4 8 p };
@@ -50,8 +50,8 @@ fieldsRead p n end flags found = record {
   payload = record { at = end; len = length p - end };
 }
 
-abbrev pub withOptions : List ℕ → Found → Saying Packet
-withOptions p found = values (fieldsRead p (nackCount p) (optionsEnd p) (flags_of p) found)
+abbrev pub with_options : List ℕ → Found → Saying Packet
+with_options p found = values (fields_read p (nack_count p) (options_end p) (flags_of p) found)
 
 -- the answer, by document 01's numbers in its order: 2, 1, then the options' own in wire order
 unfoldable pub read_of : List ℕ → Saying Packet
@@ -60,13 +60,13 @@ read_of p =
     refusal 2 when ltb 65535 (length p) else
     -- packet shorter than 22, 22+4n or 22+4n+o
     refusal 1 when ltb (length p) 22 else
-    refusal 1 when ltb (length p) (optionsAt p) else
-    refusal 1 when ltb (length p) (optionsEnd p) else
-    (optionsIn p (optionsAt p) (optionsEnd p) (flags_of p) and_then withOptions p)
+    refusal 1 when ltb (length p) (options_at p) else
+    refusal 1 when ltb (length p) (options_end p) else
+    (options_in p (options_at p) (options_end p) (flags_of p) and_then with_options p)
 
 -- the fields where nothing is read: every number 0, every part empty
-abbrev pub noFields : Packet
-noFields = record {
+abbrev pub no_fields : Packet
+no_fields = record {
   send_stream_id = record { 0 = 0 };
   recv_stream_id = record { 0 = 0 };
   seq_nro = record { 0 = 0 };
@@ -82,30 +82,30 @@ noFields = record {
   payload = record { at = 0; len = 0 };
 }
 
-abbrev pub fieldsIn : Saying Packet → Packet
-fieldsIn (refusal number) = noFields
-fieldsIn (values fields) = fields
+abbrev pub fields_in : Saying Packet → Packet
+fields_in (refusal number) = no_fields
+fields_in (values fields) = fields
 
 -- the fields that are read of p
 abbrev pub fields_of : List ℕ → Packet
-fields_of p = fieldsIn (read_of p)
+fields_of p = fields_in (read_of p)
 
 -- The parts, as parts of the packet itself. Where the read is refused, a part is empty.
 abbrev pub spanned : List ℕ → Span → List ℕ
 spanned p s = take s.len (drop s.at p)
 
-abbrev pub nacksOf : List ℕ → List ℕ
-nacksOf p = spanned p (fields_of p).nacks
+abbrev pub nacks_of : List ℕ → List ℕ
+nacks_of p = spanned p (fields_of p).nacks
 
 -- the NACKs as numbers: the bytes of that part, four each
-abbrev pub nackNumbersOf : List ℕ → List ℕ
-nackNumbersOf p = numbersAt 4 (length (nacksOf p) / 4) 0 (nacksOf p)
+abbrev pub nack_numbers_of : List ℕ → List ℕ
+nack_numbers_of p = numbers_at 4 (length (nacks_of p) / 4) 0 (nacks_of p)
 
-abbrev pub destinationOf : List ℕ → List ℕ
-destinationOf p = spanned p (fields_of p).destination
+abbrev pub destination_of : List ℕ → List ℕ
+destination_of p = spanned p (fields_of p).destination
 
 abbrev pub signature_of : List ℕ → List ℕ
 signature_of p = spanned p (fields_of p).signature
 
-abbrev pub payloadOf : List ℕ → List ℕ
-payloadOf p = spanned p (fields_of p).payload
+abbrev pub payload_of : List ℕ → List ℕ
+payload_of p = spanned p (fields_of p).payload

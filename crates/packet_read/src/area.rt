@@ -3,15 +3,15 @@ ghost use Rattle.std.specs.Prelude.{◌≡◌, ◌+◌, ◌≤◌, length, eqb};
 ghost use Rattle.terms.specs.Answers.{values};
 ghost use Rattle.terms.specs.Ladder.{◌when◌else◌};
 ghost use Rattle.wire.specs.BigEndian.{number_at};
-ghost use Rattle.packet_read.specs.Destination.{formFits, keyFits, destinationIn, saidDestination};
-ghost use Rattle.packet_read.specs.Options.{saidOptions, destinationAt, noDestination, afterDestination, optionsIn};
+ghost use Rattle.packet_read.specs.Destination.{form_fits, key_fits, destination_in, said_destination};
+ghost use Rattle.packet_read.specs.Options.{said_options, destination_at, no_destination, after_destination, options_in};
 
 use super::{DestinationFound, Found, Options, Span, flags};
 use terms::Refusal;
 
 // Certificate type 0 wants L 0, and type 5 L at least 4.
 fn form_fits(certificate: u8, length: usize) -> bool
-    ensures { result ≡ formFits certificate length }
+    ensures { result ≡ form_fits certificate length }
 {
     if certificate == 0 {
         return length == 0;
@@ -35,7 +35,7 @@ fn signing_type(bytes: &[u8], at: usize, certificate: u8) -> u16
 
 // The type is listed, and key type 3 wants L at least 8.
 fn key_fits(kind: u16, length: usize) -> bool
-    ensures { result ≡ keyFits kind length }
+    ensures { result ≡ key_fits kind length }
 {
     if packet_keys::signature_length(kind) == 0 {
         return false;
@@ -49,7 +49,7 @@ fn key_fits(kind: u16, length: usize) -> bool
 // A destination in the bytes from at to end: 384 key bytes, certificate type, length L, L bytes.
 pub(super) fn destination_in(bytes: &[u8], at: usize, end: usize) -> DestinationFound
     requires { (at ≤ end) × (end ≤ length bytes.now) }
-    ensures { saidDestination result ≡ destinationIn bytes.now at end }
+    ensures { said_destination result ≡ destination_in bytes.now at end }
 {
     if end - at < 387 {
         return DestinationFound::Refused(Refusal::OptionCut);
@@ -80,8 +80,8 @@ fn after_destination(
     size: usize,
     signs: usize,
 ) -> Options
-    requires { (destination_at ≡ destinationAt at flags) × (destination_at + size ≤ end) × (end ≤ length packet.now) }
-    ensures { saidOptions result ≡ afterDestination packet.now at end flags (record { size = size; signs = signs }) }
+    requires { (destination_at ≡ destination_at at flags) × (destination_at + size ≤ end) × (end ≤ length packet.now) }
+    ensures { said_options result ≡ after_destination packet.now at end flags (record { size = size; signs = signs }) }
 {
     let max_at = destination_at + size;
     let sized = flags::has(flags, flags::MAX_SIZE);
@@ -131,7 +131,7 @@ fn signature_size(signed: bool, from: bool, signs: usize, left: usize) -> usize
 // The destination, that of no byte where its bit is clear.
 fn destination_there(packet: &[u8], at: usize, end: usize, from: bool) -> DestinationFound
     requires { (at ≤ end) × (end ≤ length packet.now) }
-    ensures { saidDestination result ≡ (destinationIn packet.now at end when from else values noDestination) }
+    ensures { said_destination result ≡ (destination_in packet.now at end when from else values no_destination) }
 {
     if from {
         destination_in(packet, at, end)
@@ -143,7 +143,7 @@ fn destination_there(packet: &[u8], at: usize, end: usize, from: bool) -> Destin
 // Ports `Flags::new`, with the signature that it drops where there is no destination.
 pub(super) fn options(packet: &[u8], at: usize, end: usize, flags: u16) -> Options
     requires { (at ≤ end) × (end ≤ length packet.now) }
-    ensures { saidOptions result ≡ optionsIn packet.now at end flags }
+    ensures { said_options result ≡ options_in packet.now at end flags }
 {
     let destination_at = at + flags::size_if(flags::has(flags, flags::DELAY), 2);
     if end < destination_at {

@@ -5,8 +5,8 @@ mod area;
 pub mod flags;
 
 ghost use Rattle.std.specs.Prelude.{◌≡◌, ◌+◌, ◌*◌, ◌≤◌, length};
-ghost use Rattle.packet_read.specs.Destination.{signsOf};
-ghost use Rattle.packet_read.specs.Reading.{saidReading, read_of, fieldsRead};
+ghost use Rattle.packet_read.specs.Destination.{signs_of};
+ghost use Rattle.packet_read.specs.Reading.{said_reading, read_of, fields_read};
 
 use terms::{Refusal, SeqNo, StreamId};
 
@@ -68,7 +68,7 @@ pub enum Options {
 
 // How long the signatures of this destination are, 0 where the bytes are not exactly one destination, with no byte behind it.
 pub fn signature_length(bytes: &[u8]) -> usize
-    ensures { result ≡ signsOf bytes.now }
+    ensures { result ≡ signs_of bytes.now }
 {
     match area::destination_in(bytes, 0, bytes.len()) {
         DestinationFound::Whole(size, signs) => flags::size_if(size == bytes.len(), signs),
@@ -79,7 +79,7 @@ pub fn signature_length(bytes: &[u8]) -> usize
 // The record of a packet whose options are found.
 fn fields(packet: &[u8], nack_count: usize, end: usize, flags: u16, found: Found) -> Packet
     requires { (22 + 4 * nack_count ≤ length packet.now) × (end ≤ length packet.now) }
-    ensures { result ≡ fieldsRead packet.now nack_count end flags found }
+    ensures { result ≡ fields_read packet.now nack_count end flags found }
 {
     let send = StreamId(wire::be32(packet, 0));
     let recv = StreamId(wire::be32(packet, 4));
@@ -115,7 +115,7 @@ fn fields(packet: &[u8], nack_count: usize, end: usize, flags: u16, found: Found
 
 // Reads a packet. Refusals in document 01's order: 2, 1, then 3 to 6 as the options come.
 pub fn read(packet: &[u8]) -> Reading
-    ensures { saidReading result ≡ read_of packet.now }
+    ensures { said_reading result ≡ read_of packet.now }
 {
     let size = packet.len();
     if size > 65535 {

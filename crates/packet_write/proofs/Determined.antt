@@ -6,29 +6,29 @@ use native.Mathlib.Omega.{arith}
 use lib.ListN.{length}
 use Rattle.terms.proofs.Numbers.{number-one}
 use Rattle.terms.proofs.Determined.{determined}
-use Rattle.packet_write.specs.Writing.{Written, saidWriting, writeOf, outputAfter}
+use Rattle.packet_write.specs.Writing.{Written, said_writing, write_of, output_after}
 use Rattle.packet_write.specs.declared.Fields.{Fields}
 use Rattle.packet_write.specs.declared.Writing.{Writing}
 use Rattle.packet_write.specs.declared.Writing.TheVariants as W
 
 -- two answers that say the same are the same
-pub writing-one : (a b : Writing) → saidWriting a ≡ saidWriting b → a ≡ b
-writing-one (W.Refused q) (W.Refused r) e = ap W.Refused (number-one q r (cc))
-writing-one (W.Refused q) (W.Written m j) e = let z : ◌≡◌ {A = ℕ} 0 1 = cc in absurd (omega arith)
-writing-one (W.Written n i) (W.Refused r) e = let z : ◌≡◌ {A = ℕ} 0 1 = cc in absurd (omega arith)
-writing-one (W.Written n i) (W.Written m j) e =
-    let w : ◌≡◌ {A = Written} (record { length-is = n; signature-at = i }) (record { length-is = m; signature-at = j }) = cc in
+pub writing_one : (a b : Writing) → said_writing a ≡ said_writing b → a ≡ b
+writing_one (W.Refused q) (W.Refused r) e = ap W.Refused (number-one q r (cc))
+writing_one (W.Refused q) (W.Written m j) e = let z : ◌≡◌ {A = ℕ} 0 1 = cc in absurd (omega arith)
+writing_one (W.Written n i) (W.Refused r) e = let z : ◌≡◌ {A = ℕ} 0 1 = cc in absurd (omega arith)
+writing_one (W.Written n i) (W.Written m j) e =
+    let w : ◌≡◌ {A = Written} (record { length-is = n; signature_begins = i }) (record { length-is = m; signature_begins = j }) = cc in
     let l : n ≡ m = ap (λ (x : Written). x.length-is) w in
     let p : i ≡ j = ap (λ (x : Written). x.signature_at) w in
     cc
 
-pub judge-determined : (f : Fields) (nacks destination signature payload : List ℕ) (room : ℕ) (a b : Writing)
-    → saidWriting a ≡ writeOf f nacks destination signature payload room → saidWriting b ≡ writeOf f nacks destination signature payload room → a ≡ b
-judge-determined f nacks destination signature payload room a b p q = writing-one a b (determined p q)
+pub judge_determined : (f : Fields) (nacks destination signature payload : List ℕ) (room : ℕ) (a b : Writing)
+    → said_writing a ≡ write_of f nacks destination signature payload room → said_writing b ≡ write_of f nacks destination signature payload room → a ≡ b
+judge_determined f nacks destination signature payload room a b p q = writing_one a b (determined p q)
 
 module _ (f : Fields) (nacks destination signature payload output : List ℕ) where
-  pub write-determined : (a b : Writing) (x y : List ℕ)
-      → saidWriting a ≡ writeOf f nacks destination signature payload (length output) → x ≡ outputAfter f nacks destination signature payload output
-      → saidWriting b ≡ writeOf f nacks destination signature payload (length output) → y ≡ outputAfter f nacks destination signature payload output
+  pub write_determined : (a b : Writing) (x y : List ℕ)
+      → said_writing a ≡ write_of f nacks destination signature payload (length output) → x ≡ output_after f nacks destination signature payload output
+      → said_writing b ≡ write_of f nacks destination signature payload (length output) → y ≡ output_after f nacks destination signature payload output
       → (a ≡ b) × (x ≡ y)
-  write-determined a b x y p q r s = (writing-one a b (determined p r), determined q s)
+  write_determined a b x y p q r s = (writing_one a b (determined p r), determined q s)

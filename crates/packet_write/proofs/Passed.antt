@@ -11,30 +11,30 @@ use Rattle.terms.specs.Answers.{values}
 use Rattle.terms.specs.Ladder.{◌when◌else◌}
 use Rattle.terms.proofs.Laws.{past, both_false}
 use Rattle.packet_read.specs.Flags.{bit}
-use Rattle.packet_read.specs.Destination.{signsOf, isDestination}
-use Rattle.packet_write.specs.Writing.{Written, partsUnfit, signedAt, packetLength, writeOf, Fitting}
+use Rattle.packet_read.specs.Destination.{signs_of, is_destination}
+use Rattle.packet_write.specs.Writing.{Written, parts_unfit, signed_at, packet_length, write_of, Fitting}
 use Rattle.packet_write.specs.declared.Fields.{Fields}
 
 -- the writer answered w
 pub record Passed (f : Fields) (nacks destination signature payload : List ℕ) (room : ℕ) (w : Written) : Type 0 where
   pub fitting : Fitting f nacks destination signature payload room
   pub online : bit 11 f.flags ≡ false
-  pub fit : partsUnfit f destination signature ≡ false
-  pub form : (bit 5 f.flags && not (isDestination destination)) ≡ false
-  pub signed : (bit 3 f.flags && (bit 5 f.flags && not (eqb (length signature) (signsOf destination)))) ≡ false
-  pub is : w ≡ record { length-is = packetLength f nacks destination signature payload; signature-at = signedAt f nacks destination when bit 3 f.flags else 0 }
+  pub fit : parts_unfit f destination signature ≡ false
+  pub form : (bit 5 f.flags && not (is_destination destination)) ≡ false
+  pub signed : (bit 3 f.flags && (bit 5 f.flags && not (eqb (length signature) (signs_of destination)))) ≡ false
+  pub is : w ≡ record { length-is = packet_length f nacks destination signature payload; signature_begins = signed_at f nacks destination when bit 3 f.flags else 0 }
 
 pub passed : (f : Fields) (nacks destination signature payload : List ℕ) (room : ℕ) (w : Written)
-    → writeOf f nacks destination signature payload room ≡ values w → Passed f nacks destination signature payload room w
-unfolding writeOf
+    → write_of f nacks destination signature payload room ≡ values w → Passed f nacks destination signature payload room w
+unfolding write_of
 passed f nacks destination signature payload room w h =
-    let n = packetLength f nacks destination signature payload in
+    let n = packet_length f nacks destination signature payload in
     let a = past 8 (ltb 255 (length nacks)) _ w h in
     let b = past 5 (bit 11 f.flags && not (bit 5 f.flags)) _ w a.1 in
     let c = past 6 (bit 11 f.flags && bit 5 f.flags) _ w b.1 in
-    let d = past 9 (partsUnfit f destination signature) _ w c.1 in
-    let g = past 4 (bit 5 f.flags && not (isDestination destination)) _ w d.1 in
-    let i = past 9 (bit 3 f.flags && (bit 5 f.flags && not (eqb (length signature) (signsOf destination)))) _ w g.1 in
+    let d = past 9 (parts_unfit f destination signature) _ w c.1 in
+    let g = past 4 (bit 5 f.flags && not (is_destination destination)) _ w d.1 in
+    let i = past 9 (bit 3 f.flags && (bit 5 f.flags && not (eqb (length signature) (signs_of destination)))) _ w g.1 in
     let j = past 2 (ltb 65535 n) _ w i.1 in
     let k = past 7 (ltb room n) _ w j.1 in
     record {

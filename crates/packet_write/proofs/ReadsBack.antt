@@ -14,229 +14,229 @@ use lib.Seq.{take_at, take-length}
 use Rattle.terms.specs.Answers.{Saying, values}
 use Rattle.terms.specs.Ladder.{◌when◌else◌}
 use Rattle.terms.specs.Lists.{all}
-use Rattle.wire.specs.BigEndian.{bytes_of, bytesOfEach, number_at}
+use Rattle.wire.specs.BigEndian.{bytes_of, bytes_of_each, number_at}
 use Rattle.wire.proofs.Laws.{length-bytes, length-each}
-use Rattle.wire.proofs.RoundTrip.{past, part-here, number-here, fits, each-numbers}
+use Rattle.wire.proofs.RoundTrip.{past, part_here, number_here, fits, each-numbers}
 use Rattle.packet_read.specs.Flags.{bit}
-use Rattle.packet_read.specs.Destination.{Whole, destinationIn, signsOf, isDestination}
-use Rattle.packet_read.specs.Options.{destinationAt, noDestination, optionsIn}
-use Rattle.packet_read.specs.Reading.{nackCount, fieldsRead, nacksOf}
+use Rattle.packet_read.specs.Destination.{Whole, destination_in, signs_of, is_destination}
+use Rattle.packet_read.specs.Options.{destination_at, no_destination, options_in}
+use Rattle.packet_read.specs.Reading.{nack_count, fields_read, nacks_of}
 use Rattle.packet_read.specs.declared.Found.{Found}
-use Rattle.packet_read.proofs.Moved.{destination-found}
-use Rattle.packet_read.proofs.Ways.{all_found, past-delay, past-options, fields-are}
-use Rattle.packet_write.specs.Writing.{Written, unfit, partsUnfit, signedAt, packetLength, headParts, ifThere, optionParts, packetBytes, writeOf}
+use Rattle.packet_read.proofs.Moved.{destination_found}
+use Rattle.packet_read.proofs.Ways.{all_found, past_delay, past_options, fields_are}
+use Rattle.packet_write.specs.Writing.{Written, unfit, parts_unfit, signed_at, packet_length, head_parts, if_there, option_parts, packet_bytes, write_of}
 use Rattle.packet_write.specs.RoundTrip.{Ranged, given, ReadBack, OutputBack}
 use Rattle.packet_write.specs.declared.Fields.{Fields}
-use Rattle.packet_write.proofs.Joins.{behind, optionsLength, packet-behind, length-packet, length-options}
+use Rattle.packet_write.proofs.Joins.{behind, options_length, packet-behind, length-packet, length_options}
 use Rattle.packet_write.proofs.Passed.{passed}
 
 -- a number where it stands, and what stands behind it
 field : (k x at to : ℕ) (p : List ℕ) (ls : List (List ℕ)) (r : List ℕ) → x < 256 ^ k → at + k ≡ to → drop at p ≡ behind (bytes_of k x ∷ ls) r
     → (number_at k at p ≡ x) × (drop to p ≡ behind ls r)
-field k x at to p ls r h t e = (number-here k x at p (behind ls r) h e, past at k to p (bytes_of k x) (behind ls r) e (length-bytes k x) t)
+field k x at to p ls r h t e = (number_here k x at p (behind ls r) h e, past at k to p (bytes_of k x) (behind ls r) e (length-bytes k x) t)
 
 -- the same of an option's number
-option : (there : Bool) (x at : ℕ) (p r : List ℕ) → x < 2 ^ 16 → (there ≡ false → x ≡ 0) → drop at p ≡ ifThere there x ++ r
+option : (there : Bool) (x at : ℕ) (p r : List ℕ) → x < 2 ^ 16 → (there ≡ false → x ≡ 0) → drop at p ≡ if_there there x ++ r
     → ((number_at 2 at p when there else 0) ≡ x) × (drop (at + (2 when there else 0)) p ≡ r)
 option true x at p r h z e = field 2 x at (at + 2) p [] r h refl e
 option false x at p r h z e = (sym (z refl), rw add-zero e)
 
 -- what is given for a clear bit is 0 or empty
-none-given : (there : Bool) (x : ℕ) → unfit there x ≡ false → there ≡ false → x ≡ 0
-none-given true x h e = cc
-none-given false x h e = omega (arith, ltb-false 0 x h)
+none_given : (there : Bool) (x : ℕ) → unfit there x ≡ false → there ≡ false → x ≡ 0
+none_given true x h e = cc
+none_given false x h e = omega (arith, ltb-false 0 x h)
 
-or-false : (a b : Bool) → (a || b) ≡ false → (a ≡ false) × (b ≡ false)
-or-false true b h = (h, cc)
-or-false false b h = (refl, h)
+or_false : (a b : Bool) → (a || b) ≡ false → (a ≡ false) × (b ≡ false)
+or_false true b h = (h, cc)
+or_false false b h = (refl, h)
 
 record Clear (f : Fields) (destination signature : List ℕ) : Type 0 where
-  no-delay : bit 6 f.flags ≡ false → f.delay ≡ 0
-  no-destination : bit 5 f.flags ≡ false → length destination ≡ 0
-  no-max : bit 7 f.flags ≡ false → f.max_size ≡ 0
-  no-signature : bit 3 f.flags ≡ false → length signature ≡ 0
+  no_delay : bit 6 f.flags ≡ false → f.delay ≡ 0
+  no_destination_there : bit 5 f.flags ≡ false → length destination ≡ 0
+  no_max : bit 7 f.flags ≡ false → f.max_size ≡ 0
+  no_signature : bit 3 f.flags ≡ false → length signature ≡ 0
 
-clear : (f : Fields) (destination signature : List ℕ) → partsUnfit f destination signature ≡ false → Clear f destination signature
+clear : (f : Fields) (destination signature : List ℕ) → parts_unfit f destination signature ≡ false → Clear f destination signature
 clear f destination signature h =
-    let a = or-false (unfit (bit 6 f.flags) f.delay) _ h in
-    let b = or-false (unfit (bit 5 f.flags) (length destination)) _ a.1 in
-    let c = or-false (unfit (bit 7 f.flags) f.max_size) _ b.1 in
+    let a = or_false (unfit (bit 6 f.flags) f.delay) _ h in
+    let b = or_false (unfit (bit 5 f.flags) (length destination)) _ a.1 in
+    let c = or_false (unfit (bit 7 f.flags) f.max_size) _ b.1 in
     record {
-      no-delay = none-given (bit 6 f.flags) f.delay a.0;
-      no-destination = none-given (bit 5 f.flags) (length destination) b.0;
-      no-max = none-given (bit 7 f.flags) f.max_size c.0;
-      no-signature = none-given (bit 3 f.flags) (length signature) c.1;
+      no_delay = none_given (bit 6 f.flags) f.delay a.0;
+      no_destination_there = none_given (bit 5 f.flags) (length destination) b.0;
+      no_max = none_given (bit 7 f.flags) f.max_size c.0;
+      no_signature = none_given (bit 3 f.flags) (length signature) c.1;
     }
 
 -- the sizes that the reader finds are those of the parts that were given
 size-found : (from is : Bool) (w : Saying Whole) (size s : ℕ) → (from && not is) ≡ false → (from ≡ false → size ≡ 0) → (is ≡ true → w ≡ values (record { size = size; signs = s }))
-    → values (record { size = size; signs = s when from else 0 }) ≡ (w when from else values noDestination)
+    → values (record { size = size; signs = s when from else 0 }) ≡ (w when from else values no_destination)
 size-found true is w size s h z e = sym (e (not-false is h))
 size-found false is w size s h z e = λ i. values (record { size = z refl i; signs = 0 })
 
-signature-found : (there from : Bool) (size s rest : ℕ) → (there && (from && not (eqb size s))) ≡ false → (there ≡ false → size ≡ 0) → size ≡ rest
+signature_found : (there from : Bool) (size s rest : ℕ) → (there && (from && not (eqb size s))) ≡ false → (there ≡ false → size ≡ 0) → size ≡ rest
     → size ≡ (((s when from else 0) when from else rest) when there else 0)
-signature-found true true size s rest h z e = eqb-true size s (not-false _ h)
-signature-found true false size s rest h z e = e
-signature-found false from size s rest h z e = z refl
+signature_found true true size s rest h z e = eqb-true size s (not-false _ h)
+signature_found true false size s rest h z e = e
+signature_found false from size s rest h z e = z refl
 
 -- every field before the options, and what stands behind them
 record Head (f : Fields) (nacks : List ℕ) (options : ℕ) (r p : List ℕ) : Type 0 where
   send-is : number_at 4 0 p ≡ f.send_stream_id.0
-  recv-is : number_at 4 4 p ≡ f.recv_stream_id.0
+  recv_is : number_at 4 4 p ≡ f.recv_stream_id.0
   seq-is : number_at 4 8 p ≡ f.seq_nro.0
   ack-is : number_at 4 12 p ≡ f.ack_through.0
-  count-is : nackCount p ≡ length nacks
-  nack-bytes : take (4 * length nacks) (drop 17 p) ≡ bytesOfEach 4 nacks
+  count-is : nack_count p ≡ length nacks
+  nack_bytes : take (4 * length nacks) (drop 17 p) ≡ bytes_of_each 4 nacks
   resend-is : number_at 1 (17 + 4 * length nacks) p ≡ f.resend_delay
-  flags-are : number_at 2 (18 + 4 * length nacks) p ≡ f.flags
-  options-are : number_at 2 (20 + 4 * length nacks) p ≡ options
-  then-options : drop (22 + 4 * length nacks) p ≡ r
+  flags_are : number_at 2 (18 + 4 * length nacks) p ≡ f.flags
+  options_are : number_at 2 (20 + 4 * length nacks) p ≡ options
+  then_options : drop (22 + 4 * length nacks) p ≡ r
 
-head-back : (f : Fields) (nacks : List ℕ) (options : ℕ) (r p : List ℕ) → Ranged f → length nacks ≤ 255 → options < 2 ^ 16
-    → p ≡ behind (headParts f nacks options) r → Head f nacks options r p
-head-back f nacks options r p ranged few small is =
+head_back : (f : Fields) (nacks : List ℕ) (options : ℕ) (r p : List ℕ) → Ranged f → length nacks ≤ 255 → options < 2 ^ 16
+    → p ≡ behind (head_parts f nacks options) r → Head f nacks options r p
+head_back f nacks options r p ranged few small is =
     let n = length nacks in
-    let ls = headParts f nacks options in
+    let ls = head_parts f nacks options in
     let a = field 4 f.send_stream_id.0 0 4 p (drop 1 ls) r ranged.send-fits refl is in
-    let b = field 4 f.recv_stream_id.0 4 8 p (drop 2 ls) r ranged.recv-fits refl a.1 in
+    let b = field 4 f.recv_stream_id.0 4 8 p (drop 2 ls) r ranged.recv_fits refl a.1 in
     let c = field 4 f.seq_nro.0 8 12 p (drop 3 ls) r ranged.seq-fits refl b.1 in
     let d = field 4 f.ack_through.0 12 16 p (drop 4 ls) r ranged.ack-fits refl c.1 in
     let e = field 1 n 16 17 p (drop 5 ls) r (omega arith) refl d.1 in
-    let g : drop (17 + 4 * n) p ≡ behind (drop 6 ls) r = past 17 (4 * n) (17 + 4 * n) p (bytesOfEach 4 nacks) (behind (drop 6 ls) r) e.1 (length-each 4 nacks) refl in
+    let g : drop (17 + 4 * n) p ≡ behind (drop 6 ls) r = past 17 (4 * n) (17 + 4 * n) p (bytes_of_each 4 nacks) (behind (drop 6 ls) r) e.1 (length-each 4 nacks) refl in
     let h = field 1 f.resend_delay (17 + 4 * n) (18 + 4 * n) p (drop 7 ls) r ranged.resend-fits (omega arith) g in
-    let i = field 2 f.flags (18 + 4 * n) (20 + 4 * n) p (drop 8 ls) r ranged.flags-fit (omega arith) h.1 in
+    let i = field 2 f.flags (18 + 4 * n) (20 + 4 * n) p (drop 8 ls) r ranged.flags_fit (omega arith) h.1 in
     let j = field 2 options (20 + 4 * n) (22 + 4 * n) p [] r small (omega arith) i.1 in
     record {
       send-is = a.0;
-      recv-is = b.0;
+      recv_is = b.0;
       seq-is = c.0;
       ack-is = d.0;
       count-is = e.0;
-      nack-bytes = part-here 17 (4 * n) p (bytesOfEach 4 nacks) (behind (drop 6 ls) r) e.1 (length-each 4 nacks);
+      nack_bytes = part_here 17 (4 * n) p (bytes_of_each 4 nacks) (behind (drop 6 ls) r) e.1 (length-each 4 nacks);
       resend-is = h.0;
-      flags-are = i.0;
-      options-are = j.0;
-      then-options = j.1;
+      flags_are = i.0;
+      options_are = j.0;
+      then_options = j.1;
     }
 
 -- the options that begin at `at`, and the payload behind them
 record Tail (f : Fields) (destination signature payload : List ℕ) (at : ℕ) (p : List ℕ) : Type 0 where
   delay-is : (number_at 2 at p when bit 6 f.flags else 0) ≡ f.delay
-  destination-here : drop (destinationAt at f.flags) p ≡ destination ++ (ifThere (bit 7 f.flags) f.max_size ++ (signature ++ payload))
-  max-is : (number_at 2 (destinationAt at f.flags + length destination) p when bit 7 f.flags else 0) ≡ f.max_size
-  signature-here : drop (destinationAt at f.flags + length destination + (2 when bit 7 f.flags else 0)) p ≡ signature ++ payload
-  payload-here : drop (destinationAt at f.flags + length destination + (2 when bit 7 f.flags else 0) + length signature) p ≡ payload
+  destination_here : drop (destination_at at f.flags) p ≡ destination ++ (if_there (bit 7 f.flags) f.max_size ++ (signature ++ payload))
+  max-is : (number_at 2 (destination_at at f.flags + length destination) p when bit 7 f.flags else 0) ≡ f.max_size
+  signature_here : drop (destination_at at f.flags + length destination + (2 when bit 7 f.flags else 0)) p ≡ signature ++ payload
+  payload_here : drop (destination_at at f.flags + length destination + (2 when bit 7 f.flags else 0) + length signature) p ≡ payload
 
-tail-back : (f : Fields) (destination signature payload : List ℕ) (at : ℕ) (p : List ℕ) → Ranged f → Clear f destination signature
-    → drop at p ≡ behind (optionParts f destination signature) payload → Tail f destination signature payload at p
-tail-back f destination signature payload at p ranged none is =
-    let from = destinationAt at f.flags in
+tail_back : (f : Fields) (destination signature payload : List ℕ) (at : ℕ) (p : List ℕ) → Ranged f → Clear f destination signature
+    → drop at p ≡ behind (option_parts f destination signature) payload → Tail f destination signature payload at p
+tail_back f destination signature payload at p ranged none is =
+    let from = destination_at at f.flags in
     let max-at = from + length destination in
     let place = max-at + (2 when bit 7 f.flags else 0) in
     let rest = signature ++ payload in
-    let a = option (bit 6 f.flags) f.delay at p (destination ++ (ifThere (bit 7 f.flags) f.max_size ++ rest)) ranged.delay-fits none.no-delay is in
-    let b = past from (length destination) max-at p destination (ifThere (bit 7 f.flags) f.max_size ++ rest) a.1 refl refl in
-    let c = option (bit 7 f.flags) f.max_size max-at p rest ranged.max-fits none.no-max b in
+    let a = option (bit 6 f.flags) f.delay at p (destination ++ (if_there (bit 7 f.flags) f.max_size ++ rest)) ranged.delay-fits none.no_delay is in
+    let b = past from (length destination) max-at p destination (if_there (bit 7 f.flags) f.max_size ++ rest) a.1 refl refl in
+    let c = option (bit 7 f.flags) f.max_size max-at p rest ranged.max-fits none.no_max b in
     record {
       delay-is = a.0;
-      destination-here = a.1;
+      destination_here = a.1;
       max-is = c.0;
-      signature-here = c.1;
-      payload-here = past place (length signature) (place + length signature) p signature payload c.1 refl refl;
+      signature_here = c.1;
+      payload_here = past place (length signature) (place + length signature) p signature payload c.1 refl refl;
     }
 
 -- the record that the reader finds in the option area
-abbrev foundBack : Fields → List ℕ → List ℕ → List ℕ → Found
-foundBack f nacks destination signature = record {
+abbrev found_back : Fields → List ℕ → List ℕ → List ℕ → Found
+found_back f nacks destination signature = record {
   delay = f.delay;
-  destination = record { at = destinationAt (22 + 4 * length nacks) f.flags; len = length destination };
+  destination = record { at = destination_at (22 + 4 * length nacks) f.flags; len = length destination };
   max_size = f.max_size;
-  signature = record { at = signedAt f nacks destination; len = length signature };
+  signature = record { at = signed_at f nacks destination; len = length signature };
   leftover = 0;
 }
 
-module _ (f : Fields) (nacks destination signature payload p : List ℕ) (head : Head f nacks (optionsLength f destination signature) (behind (optionParts f destination signature) payload) p)
+module _ (f : Fields) (nacks destination signature payload p : List ℕ) (head : Head f nacks (options_length f destination signature) (behind (option_parts f destination signature) payload) p)
     (tail : Tail f destination signature payload (22 + 4 * length nacks) p) (none : Clear f destination signature) where
-  options-back : bit 11 f.flags ≡ false → (bit 5 f.flags && not (isDestination destination)) ≡ false
-      → (bit 3 f.flags && (bit 5 f.flags && not (eqb (length signature) (signsOf destination)))) ≡ false
-      → values (foundBack f nacks destination signature)
-      ≡ optionsIn p (22 + 4 * length nacks) (22 + 4 * length nacks + optionsLength f destination signature) f.flags
-  options-back online form signed =
+  options_back : bit 11 f.flags ≡ false → (bit 5 f.flags && not (is_destination destination)) ≡ false
+      → (bit 3 f.flags && (bit 5 f.flags && not (eqb (length signature) (signs_of destination)))) ≡ false
+      → values (found_back f nacks destination signature)
+      ≡ options_in p (22 + 4 * length nacks) (22 + 4 * length nacks + options_length f destination signature) f.flags
+  options_back online form signed =
       let at = 22 + 4 * length nacks in
-      let o = optionsLength f destination signature in
+      let o = options_length f destination signature in
       let end = at + o in
-      let from = destinationAt at f.flags in
-      let place = signedAt f nacks destination in
-      let long = length-options f destination signature in
-      let whole : Whole = record { size = length destination; signs = signsOf destination when bit 5 f.flags else 0 } in
-      let d = size-found (bit 5 f.flags) (isDestination destination) (destinationIn p from end) (length destination) (signsOf destination) form none.no-destination
-      (λ t. destination-found p destination (ifThere (bit 7 f.flags) f.max_size ++ (signature ++ payload)) from end tail.destination-here t (omega (arith, long))) in
-      let s : length signature ≡ (((signsOf destination when bit 5 f.flags else 0) when bit 5 f.flags else (end - place)) when bit 3 f.flags else 0) =
-      signature-found (bit 3 f.flags) (bit 5 f.flags) (length signature) (signsOf destination) (end - place) signed none.no-signature (omega (arith, long)) in
+      let from = destination_at at f.flags in
+      let place = signed_at f nacks destination in
+      let long = length_options f destination signature in
+      let whole : Whole = record { size = length destination; signs = signs_of destination when bit 5 f.flags else 0 } in
+      let d = size-found (bit 5 f.flags) (is_destination destination) (destination_in p from end) (length destination) (signs_of destination) form none.no_destination_there
+      (λ t. destination_found p destination (if_there (bit 7 f.flags) f.max_size ++ (signature ++ payload)) from end tail.destination_here t (omega (arith, long))) in
+      let s : length signature ≡ (((signs_of destination when bit 5 f.flags else 0) when bit 5 f.flags else (end - place)) when bit 3 f.flags else 0) =
+      signature_found (bit 3 f.flags) (bit 5 f.flags) (length signature) (signs_of destination) (end - place) signed none.no_signature (omega (arith, long)) in
       let l : end - place - length signature ≡ 0 = omega (arith, long) in
       let found = all_found p at end f.flags whole place (omega arith) (omega (arith, long)) online (length signature) s (omega (arith, long))
       from f.delay f.max_size refl (sym tail.delay-is) (sym tail.max-is) in
-      rw l at found ∙ past-delay p at end f.flags from refl (omega (arith, long)) (values whole) (bit 5 f.flags) refl d
+      rw l at found ∙ past_delay p at end f.flags from refl (omega (arith, long)) (values whole) (bit 5 f.flags) refl d
 
-  fields-given : optionsLength f destination signature ≡ (2 when bit 6 f.flags else 0) + length destination + (2 when bit 7 f.flags else 0) + length signature
-      → length p ≡ 22 + 4 * length nacks + optionsLength f destination signature + length payload
-      → fieldsRead p (length nacks) (22 + 4 * length nacks + optionsLength f destination signature) f.flags (foundBack f nacks destination signature)
+  fields_given : options_length f destination signature ≡ (2 when bit 6 f.flags else 0) + length destination + (2 when bit 7 f.flags else 0) + length signature
+      → length p ≡ 22 + 4 * length nacks + options_length f destination signature + length payload
+      → fields_read p (length nacks) (22 + 4 * length nacks + options_length f destination signature) f.flags (found_back f nacks destination signature)
       ≡ given f nacks destination signature payload
-  fields-given long whole =
-      let e : 22 + 4 * length nacks + optionsLength f destination signature ≡ signedAt f nacks destination + length signature = omega arith in
-      let l : length p - (signedAt f nacks destination + length signature) ≡ length payload = omega arith in
-      rw (e, l, head.send-is, head.recv-is, head.seq-is, head.ack-is, head.resend-is)
+  fields_given long whole =
+      let e : 22 + 4 * length nacks + options_length f destination signature ≡ signed_at f nacks destination + length signature = omega arith in
+      let l : length p - (signed_at f nacks destination + length signature) ≡ length payload = omega arith in
+      rw (e, l, head.send-is, head.recv_is, head.seq-is, head.ack-is, head.resend-is)
 
 -- The theorem: for fields and NACKs that fit their widths, any destination, signature and payload and any room, a packet that is not
 -- refused reads back as what was given.
-pub reads-back : (f : Fields) (nacks destination signature payload : List ℕ) (room : ℕ) (w : Written) → Ranged f → all (fits 4) nacks ≡ true
-    → writeOf f nacks destination signature payload room ≡ values w → ReadBack f nacks destination signature payload (packetBytes f nacks destination signature payload)
-reads-back f nacks destination signature payload room w ranged fit h =
-    let p = packetBytes f nacks destination signature payload in
+pub reads_back : (f : Fields) (nacks destination signature payload : List ℕ) (room : ℕ) (w : Written) → Ranged f → all (fits 4) nacks ≡ true
+    → write_of f nacks destination signature payload room ≡ values w → ReadBack f nacks destination signature payload (packet_bytes f nacks destination signature payload)
+reads_back f nacks destination signature payload room w ranged fit h =
+    let p = packet_bytes f nacks destination signature payload in
     let n = length nacks in
-    let o = optionsLength f destination signature in
-    let r = behind (optionParts f destination signature) payload in
+    let o = options_length f destination signature in
+    let r = behind (option_parts f destination signature) payload in
     let ok = passed f nacks destination signature payload room w h in
-    let long = length-options f destination signature in
+    let long = length_options f destination signature in
     let whole = length-packet f nacks destination signature payload in
     let none = clear f destination signature ok.fit in
-    let head = head-back f nacks o r p ranged ok.fitting.few (omega (arith, long, ok.fitting.short)) (packet-behind f nacks destination signature payload) in
-    let tail = tail-back f destination signature payload (22 + 4 * n) p ranged none head.then-options in
-    let found = foundBack f nacks destination signature in
-    let options = options-back f nacks destination signature payload p head tail none ok.online ok.form ok.signed in
+    let head = head_back f nacks o r p ranged ok.fitting.few (omega (arith, long, ok.fitting.short)) (packet-behind f nacks destination signature payload) in
+    let tail = tail_back f destination signature payload (22 + 4 * n) p ranged none head.then_options in
+    let found = found_back f nacks destination signature in
+    let options = options_back f nacks destination signature payload p head tail none ok.online ok.form ok.signed in
     let short : length p ≤ 65535 = omega (arith, long, whole, ok.fitting.short) in
     let en = sym head.count-is in
-    let eo = sym head.options-are in
-    let ef = sym head.flags-are in
-    let read = past-options p short (omega (arith, whole)) n en (omega (arith, whole)) o eo (omega (arith, whole)) f.flags ef (values found) options in
-    let fields = fields-are p short (omega (arith, whole)) n en (omega (arith, whole)) o eo f.flags ef found in
-    let back = fields-given f nacks destination signature payload p head tail none long whole in
+    let eo = sym head.options_are in
+    let ef = sym head.flags_are in
+    let read = past_options p short (omega (arith, whole)) n en (omega (arith, whole)) o eo (omega (arith, whole)) f.flags ef (values found) options in
+    let fields = fields_are p short (omega (arith, whole)) n en (omega (arith, whole)) o eo f.flags ef found in
+    let back = fields_given f nacks destination signature payload p head tail none long whole in
     let answer = sym read ∙ ap values (sym fields ∙ back) in
-    let nack-bytes : nacksOf p ≡ bytesOfEach 4 nacks = rw answer head.nack-bytes in
+    let nack_bytes : nacks_of p ≡ bytes_of_each 4 nacks = rw answer head.nack_bytes in
     let four : 4 * n / 4 ≡ n = omega arith in
     record {
       fields_back = answer;
-      nack-bytes-back = nack-bytes;
-      nacks-back = rw (nack-bytes, length-each 4 nacks, four) (rw append-nil at (each-numbers nacks [] fit));
-      destination-back =
+      nack_bytes_back = nack_bytes;
+      nacks_back = rw (nack_bytes, length-each 4 nacks, four) (rw append-nil at (each-numbers nacks [] fit));
+      destination_back =
           rw answer
-          (part-here (destinationAt (22 + 4 * n) f.flags) (length destination) p destination (ifThere (bit 7 f.flags) f.max_size ++ (signature ++ payload)) tail.destination-here refl);
-      signature-back = rw answer (part-here (signedAt f nacks destination) (length signature) p signature payload tail.signature-here refl);
-      payload-back = rw (answer, tail.payload-here) (take-length payload);
+          (part_here (destination_at (22 + 4 * n) f.flags) (length destination) p destination (if_there (bit 7 f.flags) f.max_size ++ (signature ++ payload)) tail.destination_here refl);
+      signature_back = rw answer (part_here (signed_at f nacks destination) (length signature) p signature payload tail.signature_here refl);
+      payload_back = rw (answer, tail.payload_here) (take-length payload);
     }
 
 -- and it is what the output begins with
-pub output-reads-back : (f : Fields) (nacks destination signature payload output : List ℕ) (w : Written) → Ranged f → all (fits 4) nacks ≡ true
-    → writeOf f nacks destination signature payload (length output) ≡ values w → OutputBack f nacks destination signature payload output w
-output-reads-back f nacks destination signature payload output w ranged fit h =
-    let p = packetBytes f nacks destination signature payload in
+pub output_reads_back : (f : Fields) (nacks destination signature payload output : List ℕ) (w : Written) → Ranged f → all (fits 4) nacks ≡ true
+    → write_of f nacks destination signature payload (length output) ≡ values w → OutputBack f nacks destination signature payload output w
+output_reads_back f nacks destination signature payload output w ranged fit h =
+    let p = packet_bytes f nacks destination signature payload in
     let ok = passed f nacks destination signature payload (length output) w h in
     let long : length p ≡ w.length-is =
-    omega (arith, length-packet f nacks destination signature payload, length-options f destination signature, ap (λ (x : Written). x.length-is) ok.is) in
+    omega (arith, length-packet f nacks destination signature payload, length_options f destination signature, ap (λ (x : Written). x.length-is) ok.is) in
     record {
-      read_back = reads-back f nacks destination signature payload (length output) w ranged fit h;
+      read_back = reads_back f nacks destination signature payload (length output) w ranged fit h;
       begins = rw h (take_at p (drop (length p) output) w.length-is long);
       long = long;
-      signature-there = ap (λ (x : Written). x.signature_at) ok.is;
+      signature_there = ap (λ (x : Written). x.signature_at) ok.is;
     }

@@ -15,63 +15,63 @@ use lib.Seq.{take_all, drop-drop, length-take-le}
 use Rattle.terms.specs.Answers.{Saying, values}
 use Rattle.terms.specs.Ladder.{◌when◌else◌}
 use Rattle.terms.specs.Lists.{all}
-use Rattle.wire.specs.BigEndian.{is_byte, bytes_of, bytesOfEach, number_at, numbersAt}
-use Rattle.wire.proofs.RoundTrip.{number_small, peel, peel-each, length-numbers}
+use Rattle.wire.specs.BigEndian.{is_byte, bytes_of, bytes_of_each, number_at, numbers_at}
+use Rattle.wire.proofs.RoundTrip.{number_small, peel, peel_each, length-numbers}
 use Rattle.packet_read.specs.Flags.{bit}
-use Rattle.packet_read.specs.Destination.{Whole, destinationIn, signsOf, isDestination}
-use Rattle.packet_read.specs.Options.{destinationAt, maxAt, signatureAt, noDestination, signatureSize, found}
-use Rattle.packet_read.specs.Reading.{nackCount, flags_of, optionsAt, optionsEnd, fieldsRead, read_of, fieldsIn, fields_of, spanned}
+use Rattle.packet_read.specs.Destination.{Whole, destination_in, signs_of, is_destination}
+use Rattle.packet_read.specs.Options.{destination_at, max_at, signature_at, no_destination, signature_size, found}
+use Rattle.packet_read.specs.Reading.{nack_count, flags_of, options_at, options_end, fields_read, read_of, fields_in, fields_of, spanned}
 use Rattle.packet_read.specs.declared.Packet.{Packet}
 use Rattle.packet_read.proofs.Form.{size-inside}
-use Rattle.packet_read.proofs.Moved.{destination-alone}
-use Rattle.packet_read.proofs.Looks.{nack-numbers}
+use Rattle.packet_read.proofs.Moved.{destination_alone}
+use Rattle.packet_read.proofs.Looks.{nack_numbers}
 use Rattle.packet_read.proofs.Readable.{Readable, readable}
-use Rattle.packet_write.specs.Writing.{written, unfit, partsUnfit, signedAt, headParts, ifThere, optionParts, packetBytes, writeOf}
-use Rattle.packet_write.specs.RoundTrip.{fieldsAgain, WrittenBack}
+use Rattle.packet_write.specs.Writing.{written, unfit, parts_unfit, signed_at, head_parts, if_there, option_parts, packet_bytes, write_of}
+use Rattle.packet_write.specs.RoundTrip.{fields_again, WrittenBack}
 use Rattle.packet_write.specs.declared.Fields.{Fields}
-use Rattle.packet_write.proofs.Joins.{behind, optionsLength, packet-behind, length-options}
-use Rattle.packet_write.proofs.Ways.{it-fits, by_length}
+use Rattle.packet_write.proofs.Joins.{behind, options_length, packet-behind, length_options}
+use Rattle.packet_write.proofs.Ways.{it_fits, by_length_lem}
 
 -- the list l, in front of what goes on as the packet does
-in-front : (l : List ℕ) {r s t : List ℕ} → r ≡ s → l ++ s ≡ t → l ++ r ≡ t
-in-front l e h = ap (λ (b : List ℕ). l ++ b) e ∙ h
+in_front : (l : List ℕ) {r s t : List ℕ} → r ≡ s → l ++ s ≡ t → l ++ r ≡ t
+in_front l e h = ap (λ (b : List ℕ). l ++ b) e ∙ h
 
 -- a part in front of what stands behind it
-peel-part : (p : List ℕ) (at n to : ℕ) → at + n ≡ to → take n (drop at p) ++ drop to p ≡ drop at p
-peel-part p at n to e = rw (← e, ← drop-drop n at p) (take-append-drop n (drop at p))
+peel_part : (p : List ℕ) (at n to : ℕ) → at + n ≡ to → take n (drop at p) ++ drop to p ≡ drop at p
+peel_part p at n to e = rw (← e, ← drop-drop n at p) (take-append-drop n (drop at p))
 
 length_part : (p : List ℕ) (at n : ℕ) → at + n ≤ length p → length (take n (drop at p)) ≡ n
 length_part p at n h = length-take-le n (drop at p) (simp length-drop (omega arith))
 
 module _ (p : List ℕ) (bytes : all is_byte p ≡ true) where
-  peel-number : (k at to : ℕ) → at + k ≡ to → to ≤ length p → bytes_of k (number_at k at p) ++ drop to p ≡ drop at p
-  peel-number k at to e h = rw (← e) (peel p bytes k at (omega arith))
+  peel_number : (k at to : ℕ) → at + k ≡ to → to ≤ length p → bytes_of k (number_at k at p) ++ drop to p ≡ drop at p
+  peel_number k at to e h = rw (← e) (peel p bytes k at (omega arith))
 
-  peel-option : (there : Bool) (at : ℕ) → at + (2 when there else 0) ≤ length p
-      → ifThere there (number_at 2 at p when there else 0) ++ drop (at + (2 when there else 0)) p ≡ drop at p
-  peel-option true at h = peel p bytes 2 at h
-  peel-option false at h = rw add-zero
+  peel_option : (there : Bool) (at : ℕ) → at + (2 when there else 0) ≤ length p
+      → if_there there (number_at 2 at p when there else 0) ++ drop (at + (2 when there else 0)) p ≡ drop at p
+  peel_option true at h = peel p bytes 2 at h
+  peel_option false at h = rw add-zero
 
 -- a clear bit has the number 0
-number-clear : (there : Bool) (x : ℕ) → there ≡ false → (x when there else 0) ≡ 0
-number-clear there x e = rw e
+number_clear : (there : Bool) (x : ℕ) → there ≡ false → (x when there else 0) ≡ 0
+number_clear there x e = rw e
 
 -- a destination of this size was found, or there was none
-when-from : (from : Bool) (w : Saying Whole) (d : Whole) → (w when from else values noDestination) ≡ values d → from ≡ true → w ≡ values d
-when-from from w d h e = rw e at h
+when_from : (from : Bool) (w : Saying Whole) (d : Whole) → (w when from else values no_destination) ≡ values d → from ≡ true → w ≡ values d
+when_from from w d h e = rw e at h
 
-when-absent : (from : Bool) (w : Saying Whole) (d : Whole) → (w when from else values noDestination) ≡ values d → from ≡ false → d.size ≡ 0
-when-absent from w d h e =
-    let z : values noDestination ≡ values d = rw e at h in
-    let n : noDestination ≡ d = cc z in
+when_absent : (from : Bool) (w : Saying Whole) (d : Whole) → (w when from else values no_destination) ≡ values d → from ≡ false → d.size ≡ 0
+when_absent from w d h e =
+    let z : values no_destination ≡ values d = rw e at h in
+    let n : no_destination ≡ d = cc z in
     sym (ap (λ (x : Whole). x.size) n)
 
-none-unfit : (there : Bool) (x : ℕ) → (there ≡ false → x ≡ 0) → unfit there x ≡ false
-none-unfit true x h = refl
-none-unfit false x h = le-ltb 0 x (omega (arith, h refl))
+none_unfit : (there : Bool) (x : ℕ) → (there ≡ false → x ≡ 0) → unfit there x ≡ false
+none_unfit true x h = refl
+none_unfit false x h = le-ltb 0 x (omega (arith, h refl))
 
-or-of : (a b : Bool) → a ≡ false → b ≡ false → (a || b) ≡ false
-or-of a b e f = rw (e, f)
+or_of : (a b : Bool) → a ≡ false → b ≡ false → (a || b) ≡ false
+or_of a b e f = rw (e, f)
 
 form_of : (from is : Bool) → (from ≡ true → is ≡ true) → (from && not is) ≡ false
 form_of true is h = rw (h refl)
@@ -85,34 +85,34 @@ signed_of false from size signs s rest e f = refl
 -- a packet that is read with the fields v
 module _ (p : List ℕ) (v : Packet) (bytes : all is_byte p ≡ true) (r : Readable p v) where
   abbrev n : ℕ
-  n = nackCount p
+  n = nack_count p
 
   abbrev at : ℕ
-  at = optionsAt p
+  at = options_at p
 
   abbrev end : ℕ
-  end = optionsEnd p
+  end = options_end p
 
   abbrev flags : ℕ
   flags = flags_of p
 
   abbrev from : ℕ
-  from = destinationAt at flags
+  from = destination_at at flags
 
   abbrev place : ℕ
-  place = signatureAt at flags r.d.size
+  place = signature_at at flags r.d.size
 
   abbrev signed : ℕ
-  signed = signatureSize p at end flags r.d
+  signed = signature_size p at end flags r.d
 
   abbrev read : Packet
-  read = fieldsRead p n end flags (found p at end flags r.d)
+  read = fields_read p n end flags (found p at end flags r.d)
 
   abbrev fields : Fields
-  fields = fieldsAgain read
+  fields = fields_again read
 
   abbrev nacks : List ℕ
-  nacks = numbersAt 4 n 17 p
+  nacks = numbers_at 4 n 17 p
 
   abbrev destination : List ℕ
   destination = spanned p read.destination
@@ -123,105 +123,105 @@ module _ (p : List ℕ) (v : Packet) (bytes : all is_byte p ≡ true) (r : Reada
   abbrev payload : List ℕ
   payload = spanned p read.payload
 
-  destination-inside : from + r.d.size ≤ end
-  destination-inside = size-inside p from end r.d (bit 5 flags) r.held.delay-fits r.held.there
+  destination_inside : from + r.d.size ≤ end
+  destination_inside = size-inside p from end r.d (bit 5 flags) r.held.delay-fits r.held.there
 
-  destination-long : length destination ≡ r.d.size
-  destination-long = length_part p from r.d.size (omega (arith, destination-inside, r.options-fit))
+  destination_long : length destination ≡ r.d.size
+  destination_long = length_part p from r.d.size (omega (arith, destination_inside, r.options_fit))
 
-  signature-long : length signature ≡ signed
-  signature-long = length_part p place signed (omega (arith, r.held.signature-fits, r.options-fit))
+  signature_long : length signature ≡ signed
+  signature_long = length_part p place signed (omega (arith, r.held.signature_fits, r.options_fit))
 
-  payload-is : payload ≡ drop end p
-  payload-is = take_all (length p - end) (drop end p) (simp length-drop (omega arith))
+  payload_is : payload ≡ drop end p
+  payload_is = take_all (length p - end) (drop end p) (simp length-drop (omega arith))
 
   module _ (whole : place + signed ≡ end) where
-    options-again : behind (optionParts fields destination signature) payload ≡ drop at p
-    options-again =
-        in-front (ifThere (bit 6 flags) fields.delay)
-        (in-front destination
-        (in-front (ifThere (bit 7 flags) fields.max_size) (in-front signature payload-is (peel-part p place signed end whole))
-        (peel-option p bytes (bit 7 flags) (from + r.d.size) (omega (arith, r.held.max-fits, r.options-fit))))
-        (peel-part p from r.d.size (from + r.d.size) refl))
-        (peel-option p bytes (bit 6 flags) at (omega (arith, r.held.delay-fits, r.options-fit)))
+    options_again : behind (option_parts fields destination signature) payload ≡ drop at p
+    options_again =
+        in_front (if_there (bit 6 flags) fields.delay)
+        (in_front destination
+        (in_front (if_there (bit 7 flags) fields.max_size) (in_front signature payload_is (peel_part p place signed end whole))
+        (peel_option p bytes (bit 7 flags) (from + r.d.size) (omega (arith, r.held.max-fits, r.options_fit))))
+        (peel_part p from r.d.size (from + r.d.size) refl))
+        (peel_option p bytes (bit 6 flags) at (omega (arith, r.held.delay-fits, r.options_fit)))
 
-    options-long : optionsLength fields destination signature ≡ number_at 2 (20 + 4 * n) p
-    options-long = omega (arith, length-options fields destination signature, destination-long, signature-long, whole)
+    options_long : options_length fields destination signature ≡ number_at 2 (20 + 4 * n) p
+    options_long = omega (arith, length_options fields destination signature, destination_long, signature_long, whole)
 
-    packet-again : behind (headParts fields nacks (optionsLength fields destination signature)) (behind (optionParts fields destination signature) payload) ≡ p
-    packet-again =
-        let fit = r.nacks-fit in
-        rw (options-long, length-numbers 4 n 17 p)
-        (in-front (bytes_of 4 (number_at 4 0 p))
-        (in-front (bytes_of 4 (number_at 4 4 p))
-        (in-front (bytes_of 4 (number_at 4 8 p))
-        (in-front (bytes_of 4 (number_at 4 12 p))
-        (in-front (bytes_of 1 n)
-        (in-front (bytesOfEach 4 nacks)
-        (in-front (bytes_of 1 (number_at 1 (17 + 4 * n) p))
-        (in-front (bytes_of 2 flags)
-        (in-front (bytes_of 2 (number_at 2 (20 + 4 * n) p)) options-again (peel-number p bytes 2 (20 + 4 * n) at (omega arith) fit))
-        (peel-number p bytes 2 (18 + 4 * n) (20 + 4 * n) (omega arith) (omega arith)))
-        (peel-number p bytes 1 (17 + 4 * n) (18 + 4 * n) (omega arith) (omega arith)))
-        (peel-each p bytes 4 n 17 (omega arith)))
-        (peel-number p bytes 1 16 17 refl (omega arith)))
-        (peel-number p bytes 4 12 16 refl (omega arith)))
-        (peel-number p bytes 4 8 12 refl (omega arith)))
-        (peel-number p bytes 4 4 8 refl (omega arith)))
-        (peel-number p bytes 4 0 4 refl (omega arith)))
+    packet_again : behind (head_parts fields nacks (options_length fields destination signature)) (behind (option_parts fields destination signature) payload) ≡ p
+    packet_again =
+        let fit = r.nacks_fit in
+        rw (options_long, length-numbers 4 n 17 p)
+        (in_front (bytes_of 4 (number_at 4 0 p))
+        (in_front (bytes_of 4 (number_at 4 4 p))
+        (in_front (bytes_of 4 (number_at 4 8 p))
+        (in_front (bytes_of 4 (number_at 4 12 p))
+        (in_front (bytes_of 1 n)
+        (in_front (bytes_of_each 4 nacks)
+        (in_front (bytes_of 1 (number_at 1 (17 + 4 * n) p))
+        (in_front (bytes_of 2 flags)
+        (in_front (bytes_of 2 (number_at 2 (20 + 4 * n) p)) options_again (peel_number p bytes 2 (20 + 4 * n) at (omega arith) fit))
+        (peel_number p bytes 2 (18 + 4 * n) (20 + 4 * n) (omega arith) (omega arith)))
+        (peel_number p bytes 1 (17 + 4 * n) (18 + 4 * n) (omega arith) (omega arith)))
+        (peel_each p bytes 4 n 17 (omega arith)))
+        (peel_number p bytes 1 16 17 refl (omega arith)))
+        (peel_number p bytes 4 12 16 refl (omega arith)))
+        (peel_number p bytes 4 8 12 refl (omega arith)))
+        (peel_number p bytes 4 4 8 refl (omega arith)))
+        (peel_number p bytes 4 0 4 refl (omega arith)))
 
-    bytes-again : packetBytes fields nacks destination signature payload ≡ p
-    bytes-again = packet-behind fields nacks destination signature payload ∙ packet-again
+    bytes_again : packet_bytes fields nacks destination signature payload ≡ p
+    bytes_again = packet-behind fields nacks destination signature payload ∙ packet_again
 
-    fit-again : partsUnfit fields destination signature ≡ false
-    fit-again =
-        or-of _ _ (none-unfit (bit 6 flags) fields.delay (number-clear (bit 6 flags) (number_at 2 at p)))
-        (or-of _ _ (none-unfit (bit 5 flags) (length destination) (λ e. destination-long ∙ when-absent (bit 5 flags) (destinationIn p from end) r.d r.held.there e))
-        (or-of _ _ (none-unfit (bit 7 flags) fields.max_size (number-clear (bit 7 flags) (number_at 2 (maxAt at flags r.d.size) p)))
-        (none-unfit (bit 3 flags) (length signature) (λ e. signature-long ∙ number-clear (bit 3 flags) (r.d.signs when bit 5 flags else (end - place)) e))))
+    fit_again : parts_unfit fields destination signature ≡ false
+    fit_again =
+        or_of _ _ (none_unfit (bit 6 flags) fields.delay (number_clear (bit 6 flags) (number_at 2 at p)))
+        (or_of _ _ (none_unfit (bit 5 flags) (length destination) (λ e. destination_long ∙ when_absent (bit 5 flags) (destination_in p from end) r.d r.held.there e))
+        (or_of _ _ (none_unfit (bit 7 flags) fields.max_size (number_clear (bit 7 flags) (number_at 2 (max_at at flags r.d.size) p)))
+        (none_unfit (bit 3 flags) (length signature) (λ e. signature_long ∙ number_clear (bit 3 flags) (r.d.signs when bit 5 flags else (end - place)) e))))
 
     -- where there is a destination, it is one by itself
-    alone : bit 5 flags ≡ true → (signsOf destination ≡ r.d.signs) × (isDestination destination ≡ true)
+    alone : bit 5 flags ≡ true → (signs_of destination ≡ r.d.signs) × (is_destination destination ≡ true)
     alone e =
-        destination-alone p destination (drop r.d.size (drop from p)) from end (sym (take-append-drop r.d.size (drop from p))) r.d.signs
-        (when-from (bit 5 flags) (destinationIn p from end) r.d r.held.there e ∙ λ i. values (record { size = sym destination-long i; signs = r.d.signs }))
+        destination_alone p destination (drop r.d.size (drop from p)) from end (sym (take-append-drop r.d.size (drop from p))) r.d.signs
+        (when_from (bit 5 flags) (destination_in p from end) r.d r.held.there e ∙ λ i. values (record { size = sym destination_long i; signs = r.d.signs }))
 
-    form-again : (bit 5 flags && not (isDestination destination)) ≡ false
-    form-again = form_of (bit 5 flags) (isDestination destination) (λ e. (alone e).1)
+    form_again : (bit 5 flags && not (is_destination destination)) ≡ false
+    form_again = form_of (bit 5 flags) (is_destination destination) (λ e. (alone e).1)
 
-    signed-again : (bit 3 flags && (bit 5 flags && not (eqb (length signature) (signsOf destination)))) ≡ false
-    signed-again = signed_of (bit 3 flags) (bit 5 flags) (length signature) (signsOf destination) r.d.signs (end - place) signature-long (λ e. (alone e).0)
+    signed_again : (bit 3 flags && (bit 5 flags && not (eqb (length signature) (signs_of destination)))) ≡ false
+    signed_again = signed_of (bit 3 flags) (bit 5 flags) (length signature) (signs_of destination) r.d.signs (end - place) signature_long (λ e. (alone e).0)
 
-    accepted-again : (room : ℕ) → length p ≤ room → writeOf fields nacks destination signature payload room ≡ written (length p) (place when bit 3 flags else 0)
-    accepted-again room h =
+    accepted_again : (room : ℕ) → length p ≤ room → write_of fields nacks destination signature payload room ≡ written (length p) (place when bit 3 flags else 0)
+    accepted_again room h =
         let m = length nacks in
         let em : m ≡ n = length-numbers 4 n 17 p in
         let few : m ≤ 255 = omega (arith, number_small p bytes 1 16 (omega arith)) in
-        let ep : place ≡ signedAt fields nacks destination = omega (arith, destination-long) in
-        let es : place + length signature + length payload ≡ length p = omega (arith, signature-long, ap length payload-is ∙ length-drop end p) in
-        let fits = it-fits flags m (length destination) (length signature) (length payload) room place ep (omega arith) (omega arith) (place when bit 3 flags else 0) refl in
-        sym (by_length fields nacks destination signature payload room few r.held.online fit-again form-again signed-again) ∙ sym fits ∙ rw es
+        let ep : place ≡ signed_at fields nacks destination = omega (arith, destination_long) in
+        let es : place + length signature + length payload ≡ length p = omega (arith, signature_long, ap length payload_is ∙ length-drop end p) in
+        let fits = it_fits flags m (length destination) (length signature) (length payload) room place ep (omega arith) (omega arith) (place when bit 3 flags else 0) refl in
+        sym (by_length_lem fields nacks destination signature payload room few r.held.online fit_again form_again signed_again) ∙ sym fits ∙ rw es
 
 -- what was written of these fields and parts, as a record of the packet alone
 record Again (p : List ℕ) (v : Packet) (nacks : List ℕ) : Type 0 where
-  bytes_back : packetBytes (fieldsAgain v) nacks (spanned p v.destination) (spanned p v.signature) (spanned p v.payload) ≡ p
+  bytes_back : packet_bytes (fields_again v) nacks (spanned p v.destination) (spanned p v.signature) (spanned p v.payload) ≡ p
   accepted : (room : ℕ) → length p ≤ room
-      → writeOf (fieldsAgain v) nacks (spanned p v.destination) (spanned p v.signature) (spanned p v.payload) room
+      → write_of (fields_again v) nacks (spanned p v.destination) (spanned p v.signature) (spanned p v.payload) room
       ≡ written (length p) (v.signature.at when bit 3 v.flags else 0)
 
 -- The theorem: for every packet of bytes that reads without refusal and without leftover option bytes.
-pub writes-back : (p : List ℕ) (v : Packet) → all is_byte p ≡ true → read_of p ≡ values v → v.leftover ≡ 0 → WrittenBack p v
-writes-back p v bytes h left =
+pub writes_back : (p : List ℕ) (v : Packet) → all is_byte p ≡ true → read_of p ≡ values v → v.leftover ≡ 0 → WrittenBack p v
+writes_back p v bytes h left =
     let r = readable p v h in
     let none : end p v bytes r - (place p v bytes r + signed p v bytes r) ≡ 0 = sym (ap (λ (x : Packet). x.leftover) r.is) ∙ left in
-    let whole : place p v bytes r + signed p v bytes r ≡ end p v bytes r = omega (arith, none, r.held.signature-fits) in
-    let first : Again p (read p v bytes r) (nacks p v bytes r) = record { bytes_back = bytes-again p v bytes r whole; accepted = accepted-again p v bytes r whole } in
-    let is : fields_of p ≡ v = ap fieldsIn h in
-    let numbers : numbersAt 4 (length (spanned p v.nacks) / 4) 0 (spanned p v.nacks) ≡ nacks p v bytes r =
-    sym (ap (λ (x : Packet). numbersAt 4 (length (spanned p x.nacks) / 4) 0 (spanned p x.nacks)) is) ∙ nack-numbers p v h in
+    let whole : place p v bytes r + signed p v bytes r ≡ end p v bytes r = omega (arith, none, r.held.signature_fits) in
+    let first : Again p (read p v bytes r) (nacks p v bytes r) = record { bytes_back = bytes_again p v bytes r whole; accepted = accepted_again p v bytes r whole } in
+    let is : fields_of p ≡ v = ap fields_in h in
+    let numbers : numbers_at 4 (length (spanned p v.nacks) / 4) 0 (spanned p v.nacks) ≡ nacks p v bytes r =
+    sym (ap (λ (x : Packet). numbers_at 4 (length (spanned p x.nacks) / 4) 0 (spanned p x.nacks)) is) ∙ nack_numbers p v h in
     let again = subst (Again p v) (sym numbers) (subst (λ (x : Packet). Again p x (nacks p v bytes r)) (sym r.is) first) in
     record {
       bytes_back = rw is again.bytes_back;
       accepted = λ room fits. rw is (again.accepted room fits);
-      output-back = λ output fits. rw (is, again.accepted (length output) fits, again.bytes_back);
+      output_back = λ output fits. rw (is, again.accepted (length output) fits, again.bytes_back);
     }

@@ -3,9 +3,9 @@ ghost use Rattle.std.specs.Prelude.{◌≡◌, true, false, ◌&&◌, not, ◌+�
 ghost use Rattle.terms.specs.Answers.{refusal};
 ghost use Rattle.terms.specs.Ladder.{◌when◌else◌};
 ghost use Rattle.packet_read.specs.Flags.{bit};
-ghost use Rattle.packet_read.specs.Destination.{isDestination};
-ghost use Rattle.packet_read.specs.Options.{signatureAt};
-ghost use Rattle.packet_write.specs.Writing.{saidWriting, written, unfit, partsUnfit, writeOf};
+ghost use Rattle.packet_read.specs.Destination.{is_destination};
+ghost use Rattle.packet_read.specs.Options.{signature_at};
+ghost use Rattle.packet_write.specs.Writing.{said_writing, written, unfit, parts_unfit, write_of};
 
 use super::{Fields, Writing};
 use packet_read::flags;
@@ -23,7 +23,7 @@ fn unfit(there: bool, given: usize) -> bool
 
 // A part or number given for any clear bit.
 fn parts_unfit(fields: Fields, destination: &[u8], signature: &[u8]) -> bool
-    ensures { result ≡ partsUnfit fields destination.now signature.now }
+    ensures { result ≡ parts_unfit fields destination.now signature.now }
 {
     let flags = fields.flags;
     let delay = unfit(flags::has(flags, flags::DELAY), fields.delay as usize);
@@ -35,7 +35,7 @@ fn parts_unfit(fields: Fields, destination: &[u8], signature: &[u8]) -> bool
 
 // A destination that is there and has another form.
 fn other_form(from: bool, destination: &[u8]) -> bool
-    ensures { result ≡ (from && not (isDestination destination.now)) }
+    ensures { result ≡ (from && not (is_destination destination.now)) }
 {
     if !from {
         return false;
@@ -89,10 +89,10 @@ fn sizes(
     room: usize,
 ) -> Writing
     requires { nacks ≤ 255 }
-    ensures { saidWriting result
-        ≡ (refusal 2 when ltb 65535 (signatureAt (22 + 4 * nacks) flags destination + signature + payload) else
-        refusal 7 when ltb room (signatureAt (22 + 4 * nacks) flags destination + signature + payload) else
-        written (signatureAt (22 + 4 * nacks) flags destination + signature + payload) (signatureAt (22 + 4 * nacks) flags destination when bit 3 flags else 0)) }
+    ensures { said_writing result
+        ≡ (refusal 2 when ltb 65535 (signature_at (22 + 4 * nacks) flags destination + signature + payload) else
+        refusal 7 when ltb room (signature_at (22 + 4 * nacks) flags destination + signature + payload) else
+        written (signature_at (22 + 4 * nacks) flags destination + signature + payload) (signature_at (22 + 4 * nacks) flags destination when bit 3 flags else 0)) }
 {
     if part_long(destination, signature, payload) {
         return Writing::Refused(Refusal::PacketLong);
@@ -118,7 +118,7 @@ pub(super) fn judge(
     payload: &[u8],
     room: usize,
 ) -> Writing
-    ensures { saidWriting result ≡ writeOf fields nacks.now destination.now signature.now payload.now room }
+    ensures { said_writing result ≡ write_of fields nacks.now destination.now signature.now payload.now room }
 {
     let flags = fields.flags;
     if nacks.len() > 255 {

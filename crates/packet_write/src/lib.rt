@@ -7,7 +7,7 @@ mod judge;
 mod put;
 
 ghost use Rattle.std.specs.Prelude.{◌≡◌, length};
-ghost use Rattle.packet_write.specs.Writing.{saidWriting, writeOf, outputAfter};
+ghost use Rattle.packet_write.specs.Writing.{said_writing, write_of, output_after};
 
 use terms::{Refusal, SeqNo, StreamId};
 
@@ -41,8 +41,8 @@ pub fn write(
     payload: &[u8],
     output: &mut [u8],
 ) -> Writing
-    ensures result_value { saidWriting result ≡ writeOf fields nacks.now destination.now signature.now payload.now (length output.old) }
-    ensures output_after { output.new ≡ outputAfter fields nacks.now destination.now signature.now payload.now output.old }
+    ensures result_value { said_writing result ≡ write_of fields nacks.now destination.now signature.now payload.now (length output.old) }
+    ensures output_after { output.new ≡ output_after fields nacks.now destination.now signature.now payload.now output.old }
 {
     let answer = judge::judge(fields, nacks, destination, signature, payload, output.len());
     if let Writing::Written(_, _) = answer {

@@ -3,7 +3,7 @@ use Prim.Native.Nat.{ℕ}
 use mathlib.Core.Path.{◌≡◌, refl, sym}
 use mathlib.Core.List.{List, [], ◌∷◌, ◌++◌, append_assoc}
 use Rattle.terms.specs.Lists.{joined}
-use Rattle.portions.specs.Fold.{Left, behind, read_all, readPortions}
+use Rattle.portions.specs.Fold.{Left, behind, read_all, read_portions}
 
 pub behind-behind : {State Given : Type 0} (a b : List Given) (left : Left State Given) → behind a (behind b left) ≡ behind (a ++ b) left
 behind-behind a b left = rw (append_assoc a b left.gave)
@@ -15,7 +15,7 @@ module _ {State Given : Type 0} (step : State → ℕ → Left State Given) wher
       rw (in_two (step state x).state xs ys)
       (behind-behind (step state x).gave (read_all step (step state x).state xs).gave (read_all step (read_all step (step state x).state xs).state ys))
 
-  pub however-cut : (state : State) (portions : List (List ℕ)) → readPortions step state portions ≡ read_all step state (joined portions)
-  however-cut state [] = refl
-  however-cut state (portion ∷ rest) =
-      rw (however-cut (read_all step state portion).state rest) (sym (in_two state portion (joined rest)))
+  pub however_cut : (state : State) (portions : List (List ℕ)) → read_portions step state portions ≡ read_all step state (joined portions)
+  however_cut state [] = refl
+  however_cut state (portion ∷ rest) =
+      rw (however_cut (read_all step state portion).state rest) (sym (in_two state portion (joined rest)))

@@ -7,7 +7,7 @@ use native.Mathlib.Omega.{arith}
 use lib.ListN.{length, take, drop, take-append-drop}
 use lib.Seq.{drop-append-le}
 use Rattle.portions.specs.Fold.{Left, behind, read_all}
-use Rattle.portions.specs.Stops.{unlessGiven, untilGiven, offered}
+use Rattle.portions.specs.Stops.{unless_given, until_given, offered}
 use Rattle.portions.proofs.Folds.{in_two, behind-behind}
 
 module _ {State Given : Type 0} (step : State → ℕ → Left State Given)
@@ -15,64 +15,64 @@ module _ {State Given : Type 0} (step : State → ℕ → Left State Given)
   -- the law of a call, over its parts
   pub record Does (state : State) (portion : List ℕ) (gave : List Given) (used : ℕ) (after : State) : Type 0 where
     pub is : read_all step state portion ≡ behind gave (read_all step after (drop used portion))
-    pub in-portion : used ≤ length portion
+    pub in_portion : used ≤ length portion
     -- it gives nothing only where it has used all
-    pub on-nothing : gave ≡ [] → used ≡ length portion
+    pub on_nothing : gave ≡ [] → used ≡ length portion
     -- and something only where it has used a byte
-    pub on-given : (x : Given) (y : List Given) → gave ≡ x ∷ y → (0 < used) × (y ≡ [])
+    pub on_given : (x : Given) (y : List Given) → gave ≡ x ∷ y → (0 < used) × (y ≡ [])
 
   pub does : (state : State) (portion : List ℕ)
-      → Does state portion (untilGiven step state portion).gave (untilGiven step state portion).used (untilGiven step state portion).state
+      → Does state portion (until_given step state portion).gave (until_given step state portion).used (until_given step state portion).state
   does state [] =
       record {
         is = refl;
-        in-portion = omega arith;
-        on-nothing = λ _. refl;
-        on-given = λ _ _ e. let z : ◌≡◌ {A = ℕ} 0 1 = cc in absurd (omega arith);
+        in_portion = omega arith;
+        on_nothing = λ _. refl;
+        on_given = λ _ _ e. let z : ◌≡◌ {A = ℕ} 0 1 = cc in absurd (omega arith);
       }
   does state (byte ∷ rest) = go (step state byte).gave refl (does (step state byte).state rest)
     where
       go : (gave : List Given) → (step state byte).gave ≡ gave
-          → Does (step state byte).state rest (untilGiven step (step state byte).state rest).gave (untilGiven step (step state byte).state rest).used
-          (untilGiven step (step state byte).state rest).state
-          → Does state (byte ∷ rest) (unlessGiven gave (step state byte).state (untilGiven step (step state byte).state rest)).gave
-          (unlessGiven gave (step state byte).state (untilGiven step (step state byte).state rest)).used
-          (unlessGiven gave (step state byte).state (untilGiven step (step state byte).state rest)).state
+          → Does (step state byte).state rest (until_given step (step state byte).state rest).gave (until_given step (step state byte).state rest).used
+          (until_given step (step state byte).state rest).state
+          → Does state (byte ∷ rest) (unless_given gave (step state byte).state (until_given step (step state byte).state rest)).gave
+          (unless_given gave (step state byte).state (until_given step (step state byte).state rest)).used
+          (unless_given gave (step state byte).state (until_given step (step state byte).state rest)).state
       go (given ∷ others) e d =
           record {
             is = rw (e, one_at_most state byte given others e);
-            in-portion = omega arith;
-            on-nothing = λ n. let z : ◌≡◌ {A = ℕ} 0 1 = cc in absurd (omega arith);
-            on-given = λ x y q. (omega arith, cc);
+            in_portion = omega arith;
+            on_nothing = λ n. let z : ◌≡◌ {A = ℕ} 0 1 = cc in absurd (omega arith);
+            on_given = λ x y q. (omega arith, cc);
           }
       go [] e d =
           record {
             is = rw e d.is;
-            in-portion = omega (arith, d.in-portion);
-            on-nothing = λ n. ap suc (d.on-nothing n);
-            on-given = λ x y q. (omega arith, (d.on-given x y q).1);
+            in_portion = omega (arith, d.in_portion);
+            on_nothing = λ n. ap suc (d.on_nothing n);
+            on_given = λ x y q. (omega arith, (d.on_given x y q).1);
           }
 
   -- more bytes of the line behind the portion
-  pub in-line : (state : State) (portion rest : List ℕ) (gave : List Given) (used : ℕ) (after : State)
+  pub in_line : (state : State) (portion rest : List ℕ) (gave : List Given) (used : ℕ) (after : State)
       → read_all step state portion ≡ behind gave (read_all step after (drop used portion)) → used ≤ length portion
       → read_all step state (portion ++ rest) ≡ behind gave (read_all step after (drop used (portion ++ rest)))
-  in-line state portion rest gave used after law within =
+  in_line state portion rest gave used after law within =
       rw (in_two step state portion rest, law, drop-append-le used portion rest within, in_two step after (drop used portion) rest)
       (sym (behind-behind gave (read_all step after (drop used portion)).gave (read_all step (read_all step after (drop used portion)).state rest)))
 
-  pub nothing-lost : (state : State) (line sizes : List ℕ)
+  pub nothing_lost : (state : State) (line sizes : List ℕ)
       → read_all step state line ≡ behind (offered step state line sizes).gave (read_all step (offered step state line sizes).state (offered step state line sizes).unused)
-  nothing-lost state line [] = refl
-  nothing-lost state line (size ∷ sizes) =
-      let one = untilGiven step state (take size line) in
+  nothing_lost state line [] = refl
+  nothing_lost state line (size ∷ sizes) =
+      let one = until_given step state (take size line) in
       let then = offered step one.state (drop one.used line) sizes in
       let d = does state (take size line) in
-      (rw (take-append-drop size line) at (in-line state (take size line) (drop size line) one.gave one.used one.state d.is d.in-portion))
-      ∙ ap (behind one.gave) (nothing-lost one.state (drop one.used line) sizes)
+      (rw (take-append-drop size line) at (in_line state (take size line) (drop size line) one.gave one.used one.state d.is d.in_portion))
+      ∙ ap (behind one.gave) (nothing_lost one.state (drop one.used line) sizes)
       ∙ behind-behind one.gave then.gave (read_all step then.state then.unused)
 
   -- where all is used, the calls gave what the line gives
-  pub however-offered : (state : State) (line sizes : List ℕ) → (offered step state line sizes).unused ≡ []
+  pub however_offered : (state : State) (line sizes : List ℕ) → (offered step state line sizes).unused ≡ []
       → read_all step state line ≡ record { state = (offered step state line sizes).state; gave = (offered step state line sizes).gave }
-  however-offered state line sizes e = (rw e at (nothing-lost state line sizes)) ∙ rw (append-nil (offered step state line sizes).gave)
+  however_offered state line sizes e = (rw e at (nothing_lost state line sizes)) ∙ rw (append-nil (offered step state line sizes).gave)

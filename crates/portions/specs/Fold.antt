@@ -21,6 +21,6 @@ module _ {State Given : Type 0} (step : State → ℕ → Left State Given) wher
   read_all state (byte ∷ rest) = behind (step state byte).gave (read_all (step state byte).state rest)
 
   -- portion after portion
-  abbrev pub readPortions : State → List (List ℕ) → Left State Given
-  readPortions state [] = record { state = state; gave = [] }
-  readPortions state (portion ∷ rest) = behind (read_all state portion).gave (readPortions (read_all state portion).state rest)
+  abbrev pub read_portions : State → List (List ℕ) → Left State Given
+  read_portions state [] = record { state = state; gave = [] }
+  read_portions state (portion ∷ rest) = behind (read_all state portion).gave (read_portions (read_all state portion).state rest)

@@ -16,23 +16,23 @@ pub record Offered (State Given : Type 0) : Type 0 where
   pub unused : List ℕ
 
 -- after a byte: something given ends the call, and else the portion goes on
-abbrev pub unlessGiven : {State Given : Type 0} → List Given → State → OneCall State Given → OneCall State Given
-unlessGiven (given ∷ none) state rest = record { gave = given ∷ []; used = 1; state = state }
-unlessGiven [] state rest = record { gave = rest.gave; used = suc rest.used; state = rest.state }
+abbrev pub unless_given : {State Given : Type 0} → List Given → State → OneCall State Given → OneCall State Given
+unless_given (given ∷ none) state rest = record { gave = given ∷ []; used = 1; state = state }
+unless_given [] state rest = record { gave = rest.gave; used = suc rest.used; state = rest.state }
 
 -- a call that used so many bytes before
-abbrev pub usedBefore : {State Given : Type 0} → ℕ → OneCall State Given → OneCall State Given
-usedBefore n reading = record { gave = reading.gave; used = n + reading.used; state = reading.state }
+abbrev pub used_before : {State Given : Type 0} → ℕ → OneCall State Given → OneCall State Given
+used_before n reading = record { gave = reading.gave; used = n + reading.used; state = reading.state }
 
 module _ {State Given : Type 0} (step : State → ℕ → Left State Given) where
-  abbrev pub untilGiven : State → List ℕ → OneCall State Given
-  untilGiven state [] = record { gave = []; used = 0; state = state }
-  untilGiven state (byte ∷ rest) = unlessGiven (step state byte).gave (step state byte).state (untilGiven (step state byte).state rest)
+  abbrev pub until_given : State → List ℕ → OneCall State Given
+  until_given state [] = record { gave = []; used = 0; state = state }
+  until_given state (byte ∷ rest) = unless_given (step state byte).gave (step state byte).state (until_given (step state byte).state rest)
 
   -- of the bytes not yet used, each call is offered as many from the front as there happen to be: any number, and none too
   abbrev pub offered : State → List ℕ → List ℕ → Offered State Given
   offered state line [] = record { gave = []; state = state; unused = line }
   offered state line (size ∷ sizes) =
-      let one = untilGiven state (take size line) in
+      let one = until_given state (take size line) in
       let then = offered one.state (drop one.used line) sizes in
       record { gave = one.gave ++ then.gave; state = then.state; unused = then.unused }

@@ -4,8 +4,8 @@ use Rattle.terms.specs.Ladder.{◌when◌else◌}
 use Rattle.terms.specs.Lists.{part}
 
 -- the first n
-abbrev pub frontOf : ℕ → List ℕ → List ℕ
-frontOf n l = take n l when leb n (length l) else []
+abbrev pub front_of : ℕ → List ℕ → List ℕ
+front_of n l = take n l when leb n (length l) else []
 
 -- all from a place on
 abbrev pub rest_of : ℕ → List ℕ → List ℕ

@@ -16,11 +16,11 @@ pub record Filling (f : ℕ → ℕ) (n i : ℕ) (l : List ℕ) : Type 0 where
   pub is : FilledTo f i l
 
 module _ (f : ℕ → ℕ) (n : ℕ) where
-  pub filling-none : (l : List ℕ) → n ≡ length l → Filling f n 0 l
-  filling-none l long = record { high = omega arith; long = long; is = λ k below. absurd (omega arith) }
+  pub filling_none : (l : List ℕ) → n ≡ length l → Filling f n 0 l
+  filling_none l long = record { high = omega arith; long = long; is = λ k below. absurd (omega arith) }
 
-  pub filling-more : (i : ℕ) (l : List ℕ) (x : ℕ) → i < n → x ≡ f i → Filling f n i l → Filling f n (i + 1) (set l i x)
-  filling-more i l x inside new before = record {
+  pub filling_more : (i : ℕ) (l : List ℕ) (x : ℕ) → i < n → x ≡ f i → Filling f n i l → Filling f n (i + 1) (set l i x)
+  filling_more i l x inside new before = record {
     high = omega arith;
     long = simp length-set before.long;
     is = λ k below.
@@ -30,5 +30,5 @@ module _ (f : ℕ → ℕ) (n : ℕ) where
         (ℕ_discrete k i);
   }
 
-  pub filling-all : (i : ℕ) (l : List ℕ) → n ≤ i → Filling f n i l → Filled f n l
-  filling-all i l done all = record { long = all.long; is = λ k below. all.is k (omega (arith, all.high)) }
+  pub filling_all : (i : ℕ) (l : List ℕ) → n ≤ i → Filling f n i l → Filled f n l
+  filling_all i l done all = record { long = all.long; is = λ k below. all.is k (omega (arith, all.high)) }

@@ -7,8 +7,8 @@ abbrev pub number_in : List ℕ → ℕ → ℕ
 number_in bank at = get_or bank at 0 when ltb at 1984 else 0
 
 -- the k-th NACK of a call
-abbrev pub nackIn : List ℕ → ℕ → ℕ
-nackIn bank k = number_in bank (128 + k) % 4294967296
+abbrev pub nack_in : List ℕ → ℕ → ℕ
+nack_in bank k = number_in bank (128 + k) % 4294967296
 
 -- below n, the k-th number of l is f k
 abbrev pub FilledTo : (ℕ → ℕ) → ℕ → List ℕ → Type 0

@@ -2,7 +2,7 @@
 // from call to call. So a call is lent one array and not ten. The bytes that a call asks, an output, the two stores and a
 // line's buffer, which is as long as an output, stand beside it.
 ghost use Rattle.std.specs.Prelude.{◌≡◌, ◌≤◌, ◌%◌, length};
-ghost use Rattle.program_script.specs.Numbers.{number_in, nackIn, Filled};
+ghost use Rattle.program_script.specs.Numbers.{number_in, nack_in, Filled};
 
 pub const NUMBERS: usize = 1984;
 
@@ -94,7 +94,7 @@ pub fn word8(bank: &Bank, at: usize) -> u8
 
 // The NACKs of the call, behind them 0.
 pub fn nacks(bank: &Bank) -> [u32; 300]
-    ensures { Filled (nackIn bank.now) 300 result }
+    ensures { Filled (nack_in bank.now) 300 result }
 {
     let mut nacks = [0u32; 300];
     let mut i = 0;

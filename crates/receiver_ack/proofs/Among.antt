@@ -11,21 +11,21 @@ use lib.Dec.{leb, ltb, eqb}
 use lib.ListN.{length, get_or, take}
 use Rattle.terms.specs.Ladder.{◌when◌else◌}
 use Rattle.terms.specs.Lists.{all}
-use Rattle.terms.proofs.Laws.{case, and_left, and_right, and_both, all-at}
+use Rattle.terms.proofs.Laws.{case, and_left, and_right, and_both, all_at}
 use Rattle.wire.proofs.RoundTrip.{all_take}
-use Rattle.receiver_ack.specs.Missing.{counted, those, notHeld, missingFrom, isAmong, ascending}
+use Rattle.receiver_ack.specs.Missing.{counted, those, not_held, missing_from, is_among, ascending}
 
 -- what holds of each number among them holds of all
-pub all_among : (test : ℕ → Bool) (l : List ℕ) → ((n : ℕ) → isAmong n l ≡ true → test n ≡ true) → all test l ≡ true
+pub all_among : (test : ℕ → Bool) (l : List ℕ) → ((n : ℕ) → is_among n l ≡ true → test n ≡ true) → all test l ≡ true
 all_among test [] f = refl
 all_among test (m ∷ l) f =
     and_both (test m) (all test l) (f m (simp (eq-eqb m m refl)))
     (all_among test l (λ n h. f n (rw h (or-true (eqb n m)))))
 
 -- of those that pass a test
-among-step : (n m : ℕ) (t s : Bool) (l k : Bool) → k ≡ (l && t) → (n ≡ m → s ≡ t) → (b : Bool) → b ≡ eqb n m
+among_step : (n m : ℕ) (t s : Bool) (l k : Bool) → k ≡ (l && t) → (n ≡ m → s ≡ t) → (b : Bool) → b ≡ eqb n m
     → ((b || k) when s else k) ≡ ((b || l) && t)
-among-step n m t s l k e f true g =
+among_step n m t s l k e f true g =
     let h = f (eqb-true n m (sym g)) in
     rw (h, e) (both t l)
   where
@@ -33,30 +33,30 @@ among-step n m t s l k e f true g =
     both true l = refl
     both false true = refl
     both false false = refl
-among-step n m t s l k e f false g = rw e (same s (l && t))
+among_step n m t s l k e f false g = rw e (same s (l && t))
   where
     same : (s k : Bool) → (k when s else k) ≡ k
     same true k = refl
     same false k = refl
 
-pub among-those : (test : ℕ → Bool) (n : ℕ) (l : List ℕ) → isAmong n (those test l) ≡ (isAmong n l && test n)
-among-those test n [] = refl
-among-those test n (m ∷ l) =
-    split (test m) ∙ among-step n m (test n) (test m) (isAmong n l) (isAmong n (those test l)) (among-those test n l) (λ e. ap test (sym e)) (eqb n m) refl
+pub among_those : (test : ℕ → Bool) (n : ℕ) (l : List ℕ) → is_among n (those test l) ≡ (is_among n l && test n)
+among_those test n [] = refl
+among_those test n (m ∷ l) =
+    split (test m) ∙ among_step n m (test n) (test m) (is_among n l) (is_among n (those test l)) (among_those test n l) (λ e. ap test (sym e)) (eqb n m) refl
   where
-    split : (s : Bool) → isAmong n ((m ∷ those test l) when s else those test l) ≡ ((eqb n m || isAmong n (those test l)) when s else isAmong n (those test l))
+    split : (s : Bool) → is_among n ((m ∷ those test l) when s else those test l) ≡ ((eqb n m || is_among n (those test l)) when s else is_among n (those test l))
     split true = refl
     split false = refl
 
 -- of numbers counted up
-pub among-counted : (n first k : ℕ) → isAmong n (counted first k) ≡ (leb first n && ltb n (first + k))
-among-counted n first zero =
+pub among_counted : (n first k : ℕ) → is_among n (counted first k) ≡ (leb first n && ltb n (first + k))
+among_counted n first zero =
     case
     (λ (h : first ≤ n). sym (rw (le-leb first n h) (le-ltb n (first + 0) (omega arith))))
     (λ (h : first ≤ n → ⊥). sym (rw (lt-leb first n (omega arith))))
     (dec_le first n)
-among-counted n first (suc k) =
-    rw (among-counted n (suc first) k)
+among_counted n first (suc k) =
+    rw (among_counted n (suc first) k)
     (case
     (λ (h : n ≡ first). rw (eq-eqb n first h, le-leb first n (omega arith), lt-ltb n (first + suc k) (omega arith)))
     (λ (h : n ≡ first → ⊥).
@@ -70,11 +70,11 @@ among-counted n first (suc k) =
     (ℕ_discrete n first))
 
 -- numbers from next to highest not held
-pub missing-among : (next highest : ℕ) (marks : List ℕ) (n : ℕ) → isAmong n (missingFrom next highest marks) ≡ (leb next n && (leb n highest && notHeld marks n))
-unfolding missingFrom
-missing-among next highest marks n =
-    among-those (notHeld marks) n (counted next (highest + 1 - next))
-    ∙ rw (among-counted n next (highest + 1 - next))
+pub missing_among : (next highest : ℕ) (marks : List ℕ) (n : ℕ) → is_among n (missing_from next highest marks) ≡ (leb next n && (leb n highest && not_held marks n))
+unfolding missing_from
+missing_among next highest marks n =
+    among_those (not_held marks) n (counted next (highest + 1 - next))
+    ∙ rw (among_counted n next (highest + 1 - next))
     (case
     (λ (h : next ≤ n).
     case
@@ -85,19 +85,19 @@ missing-among next highest marks n =
     (dec_le next n))
 
 -- so each of them lies from next to highest
-pub missing-within : (next highest : ℕ) (marks : List ℕ) → all (λ n. leb next n && leb n highest) (missingFrom next highest marks) ≡ true
+pub missing-within : (next highest : ℕ) (marks : List ℕ) → all (λ n. leb next n && leb n highest) (missing_from next highest marks) ≡ true
 missing-within next highest marks =
-    all_among (λ n. leb next n && leb n highest) (missingFrom next highest marks)
+    all_among (λ n. leb next n && leb n highest) (missing_from next highest marks)
     (λ n h.
-    let t = sym (missing-among next highest marks n) ∙ h in
-    and_both (leb next n) (leb n highest) (and_left (leb next n) (leb n highest && notHeld marks n) t)
-    (and_left (leb n highest) (notHeld marks n) (and_right (leb next n) (leb n highest && notHeld marks n) t)))
+    let t = sym (missing_among next highest marks n) ∙ h in
+    and_both (leb next n) (leb n highest) (and_left (leb next n) (leb n highest && not_held marks n) t)
+    (and_left (leb n highest) (not_held marks n) (and_right (leb next n) (leb n highest && not_held marks n) t)))
 
-pub missing_at : (next highest : ℕ) (marks : List ℕ) (k : ℕ) → k < length (missingFrom next highest marks)
-    → (next ≤ get_or (missingFrom next highest marks) k 0) × (get_or (missingFrom next highest marks) k 0 ≤ highest)
+pub missing_at : (next highest : ℕ) (marks : List ℕ) (k : ℕ) → k < length (missing_from next highest marks)
+    → (next ≤ get_or (missing_from next highest marks) k 0) × (get_or (missing_from next highest marks) k 0 ≤ highest)
 missing_at next highest marks k h =
-    let n = get_or (missingFrom next highest marks) k 0 in
-    let t = all-at (λ n. leb next n && leb n highest) (missingFrom next highest marks) (missing-within next highest marks) k h in
+    let n = get_or (missing_from next highest marks) k 0 in
+    let t = all_at (λ n. leb next n && leb n highest) (missing_from next highest marks) (missing-within next highest marks) k h in
     (leb-true next n (and_left (leb next n) (leb n highest) t), leb-true n highest (and_right (leb next n) (leb n highest) t))
 
 -- and they ascend
@@ -118,18 +118,18 @@ ascending-those test (n ∷ l) h =
     kept true a b = and_both (all (ltb n) (those test l)) (ascending (those test l)) a b
     kept false a b = b
 
-above-counted : (n first k : ℕ) → n < first → all (ltb n) (counted first k) ≡ true
-above-counted n first zero h = refl
-above-counted n first (suc k) h = and_both (ltb n first) (all (ltb n) (counted (suc first) k)) (lt-ltb n first h) (above-counted n (suc first) k (omega arith))
+above_counted : (n first k : ℕ) → n < first → all (ltb n) (counted first k) ≡ true
+above_counted n first zero h = refl
+above_counted n first (suc k) h = and_both (ltb n first) (all (ltb n) (counted (suc first) k)) (lt-ltb n first h) (above_counted n (suc first) k (omega arith))
 
 ascending-counted : (first k : ℕ) → ascending (counted first k) ≡ true
 ascending-counted first zero = refl
 ascending-counted first (suc k) =
-    and_both (all (ltb first) (counted (suc first) k)) (ascending (counted (suc first) k)) (above-counted first (suc first) k (omega arith)) (ascending-counted (suc first) k)
+    and_both (all (ltb first) (counted (suc first) k)) (ascending (counted (suc first) k)) (above_counted first (suc first) k (omega arith)) (ascending-counted (suc first) k)
 
-pub missing-ascending : (next highest : ℕ) (marks : List ℕ) → ascending (missingFrom next highest marks) ≡ true
-unfolding missingFrom
-missing-ascending next highest marks = ascending-those (notHeld marks) (counted next (highest + 1 - next)) (ascending-counted next (highest + 1 - next))
+pub missing-ascending : (next highest : ℕ) (marks : List ℕ) → ascending (missing_from next highest marks) ≡ true
+unfolding missing_from
+missing-ascending next highest marks = ascending-those (not_held marks) (counted next (highest + 1 - next)) (ascending-counted next (highest + 1 - next))
 
 pub ascending-take : (k : ℕ) (l : List ℕ) → ascending l ≡ true → ascending (take k l) ≡ true
 ascending-take zero l h = refl
@@ -139,14 +139,14 @@ ascending-take (suc k) (n ∷ l) h =
     (ascending-take k l (and_right (all (ltb n) l) (ascending l) h))
 
 -- a number that is not above a bound below all of them is not among them
-none_below : (n bound : ℕ) (l : List ℕ) → all (ltb bound) l ≡ true → n ≤ bound → isAmong n l ≡ false
+none_below : (n bound : ℕ) (l : List ℕ) → all (ltb bound) l ≡ true → n ≤ bound → is_among n l ≡ false
 none_below n bound [] h low = refl
 none_below n bound (m ∷ l) h low =
     let above = ltb-true bound m (and_left (ltb bound m) (all (ltb bound) l) h) in
     rw (ne_eqb n m (λ e. omega arith)) (none_below n bound l (and_right (ltb bound m) (all (ltb bound) l) h) low)
 
 -- below the element at k, what is among them is among the first k
-pub among_first : (n k : ℕ) (l : List ℕ) → ascending l ≡ true → k < length l → n < get_or l k 0 → isAmong n (take k l) ≡ isAmong n l
+pub among_first : (n k : ℕ) (l : List ℕ) → ascending l ≡ true → k < length l → n < get_or l k 0 → is_among n (take k l) ≡ is_among n l
 among_first n k [] h within low = absurd (not-suc-le-zero within)
 among_first n zero (m ∷ l) h within low =
     sym (rw (ne_eqb n m (λ e. omega arith)) (none_below n m l (and_left (all (ltb m) l) (ascending l) h) (omega arith)))
@@ -154,19 +154,19 @@ among_first n (suc k) (m ∷ l) h within low =
     ap (λ (b : Bool). eqb n m || b) (among_first n k l (and_right (all (ltb m) l) (ascending l) h) (le_of_suc-le-suc within) low)
 
 -- ascending numbers are at least as large as their places
-climbs-from : (bound k : ℕ) (l : List ℕ) → all (leb bound) l ≡ true → ascending l ≡ true → k < length l → bound + k ≤ get_or l k 0
-climbs-from bound k [] h a within = absurd (not-suc-le-zero within)
-climbs-from bound zero (n ∷ l) h a within = omega (arith, leb-true bound n (and_left (leb bound n) (all (leb bound) l) h))
-climbs-from bound (suc k) (n ∷ l) h a within =
+climbs_from : (bound k : ℕ) (l : List ℕ) → all (leb bound) l ≡ true → ascending l ≡ true → k < length l → bound + k ≤ get_or l k 0
+climbs_from bound k [] h a within = absurd (not-suc-le-zero within)
+climbs_from bound zero (n ∷ l) h a within = omega (arith, leb-true bound n (and_left (leb bound n) (all (leb bound) l) h))
+climbs_from bound (suc k) (n ∷ l) h a within =
     omega (
       arith,
       leb-true bound n (and_left (leb bound n) (all (leb bound) l) h),
-      climbs-from (suc n) k l (and_left (all (ltb n) l) (ascending l) a) (and_right (all (ltb n) l) (ascending l) a) (le_of_suc-le-suc within),
+      climbs_from (suc n) k l (and_left (all (ltb n) l) (ascending l) a) (and_right (all (ltb n) l) (ascending l) a) (le_of_suc-le-suc within),
     )
 
 pub climbs : (k : ℕ) (l : List ℕ) → ascending l ≡ true → k < length l → k ≤ get_or l k 0
-climbs k l a within = omega (arith, climbs-from 0 k l (all_among (leb 0) l (λ n h. le-leb 0 n (omega arith))) a within)
+climbs k l a within = omega (arith, climbs_from 0 k l (all_among (leb 0) l (λ n h. le-leb 0 n (omega arith))) a within)
 
-pub all-implies : (p q : ℕ → Bool) (l : List ℕ) → ((n : ℕ) → p n ≡ true → q n ≡ true) → all p l ≡ true → all q l ≡ true
-all-implies p q [] f h = refl
-all-implies p q (n ∷ l) f h = and_both (q n) (all q l) (f n (and_left (p n) (all p l) h)) (all-implies p q l f (and_right (p n) (all p l) h))
+pub all_implies : (p q : ℕ → Bool) (l : List ℕ) → ((n : ℕ) → p n ≡ true → q n ≡ true) → all p l ≡ true → all q l ≡ true
+all_implies p q [] f h = refl
+all_implies p q (n ∷ l) f h = and_both (q n) (all q l) (f n (and_left (p n) (all p l) h)) (all_implies p q l f (and_right (p n) (all p l) h))

@@ -10,14 +10,14 @@ use native.Mathlib.Omega.{arith}
 use lib.ListN.{length, get_or, drop, set, length-append, length-set}
 use lib.Seq.{drop-cons, set-append_seam}
 use Rattle.terms.specs.Ladder.{◌when◌else◌}
-use Rattle.terms.specs.Lists.{◌atFrontOf◌}
-use Rattle.receiver_ack.specs.Missing.{counted, those, notHeld, missingFrom}
+use Rattle.terms.specs.Lists.{◌at_front_of◌}
+use Rattle.receiver_ack.specs.Missing.{counted, those, not_held, missing_from}
 
-counted-more : (first k : ℕ) → counted first (suc k) ≡ counted first k ++ ((first + k) ∷ [])
-counted-more first zero = rw add-zero
-counted-more first (suc k) =
+counted_more : (first k : ℕ) → counted first (suc k) ≡ counted first k ++ ((first + k) ∷ [])
+counted_more first zero = rw add-zero
+counted_more first (suc k) =
     let e : suc first + k ≡ first + suc k = omega arith in
-    ap (λ (l : List ℕ). first ∷ l) (counted-more (suc first) k ∙ ap (λ (m : ℕ). counted (suc first) k ++ (m ∷ [])) e)
+    ap (λ (l : List ℕ). first ∷ l) (counted_more (suc first) k ∙ ap (λ (m : ℕ). counted (suc first) k ++ (m ∷ [])) e)
 
 first_passes : (t : Bool) (n : ℕ) (a b : List ℕ) → ((n ∷ (a ++ b)) when t else (a ++ b)) ≡ ((n ∷ a) when t else a) ++ b
 first_passes true n a b = refl
@@ -28,7 +28,7 @@ those-append test [] b = refl
 those-append test (n ∷ a) b = rw (those-append test a b) (first_passes (test n) n (those test a) (those test b))
 
 -- one number more behind those that stand at the front
-one-behind : (l table : List ℕ) (n : ℕ) → length l < length table → set (l atFrontOf table) (length l) n ≡ (l ++ (n ∷ [])) atFrontOf table
+one-behind : (l table : List ℕ) (n : ℕ) → length l < length table → set (l at_front_of table) (length l) n ≡ (l ++ (n ∷ [])) at_front_of table
 one-behind l table n h =
     let long : length (l ++ (n ∷ [])) ≡ suc (length l) = rw length-append (add-one (length l)) in
     ap (λ (d : List ℕ). set (l ++ d) (length l) n) (drop-cons table (length l) 0 h)
@@ -45,7 +45,7 @@ pub record Listed (test : ℕ → Bool) (next highest : ℕ) (before table : Lis
   pub few : count ≤ n - next
   pub long : length table ≡ length before
   pub many : count ≡ length (listed test next n)
-  pub are : table ≡ listed test next n atFrontOf before
+  pub are : table ≡ listed test next n at_front_of before
 
 module _ (test : ℕ → Bool) (next highest : ℕ) (before : List ℕ) where
   listed_more : (n : ℕ) → next ≤ n → listed test next (n + 1) ≡ listed test next n ++ ((n ∷ []) when test n else [])
@@ -53,18 +53,18 @@ module _ (test : ℕ → Bool) (next highest : ℕ) (before : List ℕ) where
       let e : n + 1 - next ≡ suc (n - next) = omega arith in
       let f : next + (n - next) ≡ n = omega arith in
       ap (λ (k : ℕ). those test (counted next k)) e
-      ∙ ap (those test) (counted-more next (n - next))
+      ∙ ap (those test) (counted_more next (n - next))
       ∙ those-append test (counted next (n - next)) ((next + (n - next)) ∷ [])
       ∙ ap (λ (m : ℕ). listed test next n ++ ((m ∷ []) when test m else [])) f
 
-  pub list-start : Listed test next highest before before 0 next
-  list-start =
+  pub list_start : Listed test next highest before before 0 next
+  list_start =
       let e : next - next ≡ 0 = omega arith in
       record { low = omega arith; high = omega arith; few = omega arith; long = refl; many = rw e; are = rw e }
 
-  pub list-found : (table : List ℕ) (count n : ℕ) → Listed test next highest before table count n → n ≤ highest → test n ≡ true → count < length before
+  pub list_found : (table : List ℕ) (count n : ℕ) → Listed test next highest before table count n → n ≤ highest → test n ≡ true → count < length before
       → Listed test next highest before (set table count n) (count + 1) (n + 1)
-  list-found table count n l within free room =
+  list_found table count n l within free room =
       let more : listed test next (n + 1) ≡ listed test next n ++ (n ∷ []) =
       listed_more n l.low ∙ rw free in
       record {
@@ -73,13 +73,13 @@ module _ (test : ℕ → Bool) (next highest : ℕ) (before : List ℕ) where
         few = omega arith;
         long = length-set table count n ∙ l.long;
         many = rw (more, length-append) (omega (arith, l.many));
-        are = ap (λ (t : List ℕ). set t count n) l.are ∙ ap (λ (k : ℕ). set (listed test next n atFrontOf before) k n) l.many
+        are = ap (λ (t : List ℕ). set t count n) l.are ∙ ap (λ (k : ℕ). set (listed test next n at_front_of before) k n) l.many
             ∙ one-behind (listed test next n) before n (omega (arith, l.many)) ∙ rw more;
       }
 
-  pub list-passed : (table : List ℕ) (count n : ℕ) → Listed test next highest before table count n → n ≤ highest → test n ≡ false
+  pub list_passed : (table : List ℕ) (count n : ℕ) → Listed test next highest before table count n → n ≤ highest → test n ≡ false
       → Listed test next highest before table count (n + 1)
-  list-passed table count n l within full =
+  list_passed table count n l within full =
       let more : listed test next (n + 1) ≡ listed test next n =
       listed_more n l.low ∙ rw full (append-nil (listed test next n)) in
       record {
@@ -92,9 +92,9 @@ module _ (test : ℕ → Bool) (next highest : ℕ) (before : List ℕ) where
       }
 
 module _ (next highest : ℕ) (marks before : List ℕ) where
-  pub list-end : (table : List ℕ) (count n : ℕ) → Listed (notHeld marks) next highest before table count n → highest < n
-      → (count ≡ length (missingFrom next highest marks)) × (table ≡ missingFrom next highest marks atFrontOf before)
-  unfolding missingFrom
-  list-end table count n l past =
+  pub list_end : (table : List ℕ) (count n : ℕ) → Listed (not_held marks) next highest before table count n → highest < n
+      → (count ≡ length (missing_from next highest marks)) × (table ≡ missing_from next highest marks at_front_of before)
+  unfolding missing_from
+  list_end table count n l past =
       let e : n - next ≡ highest + 1 - next = omega arith in
       (l.many ∙ rw e, l.are ∙ rw e)

@@ -11,22 +11,22 @@ use lib.ListN.{length, take, drop}
 use lib.Seq.{take_at}
 use Rattle.terms.specs.declared.StreamId.{StreamId}
 use Rattle.terms.specs.Ladder.{◌when◌else◌}
-use Rattle.terms.specs.Lists.{◌atFrontOf◌}
+use Rattle.terms.specs.Lists.{◌at_front_of◌}
 use Rattle.terms.proofs.Laws.{rung, and_left, past}
 use Rattle.wire.proofs.RoundTrip.{fits}
 use Rattle.terms.specs.Answers.{Said, refusal, values}
-use Rattle.receiver_state.specs.Rules.{rulesOf, slotFits, sizesFit}
+use Rattle.receiver_state.specs.Rules.{rules_of, slot_fits, sizes_fit}
 use Rattle.receiver_calls.specs.Meaning.{Sound}
 use Rattle.receiver_state.specs.declared.Receiver.{Receiver}
-use Rattle.receiver_ack.specs.Acknowledge.{plainAck, plainAckOf, acknowledgeSaid, acknowledgeOf}
-use Rattle.receiver_ack.proofs.Ways.{ack-most}
-use Rattle.receiver_ack.proofs.Carried.{Carries, acked-reads}
+use Rattle.receiver_ack.specs.Acknowledge.{plain_ack, plain_ack_of, acknowledge_said, acknowledge_of}
+use Rattle.receiver_ack.proofs.Ways.{ack_most}
+use Rattle.receiver_ack.proofs.Carried.{Carries, acked_reads}
 
 -- THE PACKET
 
 -- The packet never exceeds 1,044 bytes.
-pub at-most-1044 : (r : Receiver) (send recv : StreamId) → length (plainAckOf r send recv) ≤ 1044
-at-most-1044 r send recv = ack-most r.head.next.0 r.head.highest.0 r.marks send recv
+pub at_most_1044 : (r : Receiver) (send recv : StreamId) → length (plain_ack_of r send recv) ≤ 1044
+at_most_1044 r send recv = ack_most r.head.next.0 r.head.highest.0 r.marks send recv
 
 -- The packet p is, as our reader reads it, the plain ack of the receiver r: exactly these fields and NACKs, no leftover, empty parts.
 abbrev pub ReadsAs : Receiver → StreamId → StreamId → List ℕ → Type 0
@@ -35,97 +35,97 @@ ReadsAs r send recv p = Carries r send recv 0 [] p
 -- A written ack: the state kept the rules and its slot size was in range, the output had room, n is the packet's length, and the packet
 -- stands at the output's front.
 pub record Written (r : Receiver) (send recv : StreamId) (output : List ℕ) (n : ℕ) : Type 0 where
-  pub keeps : rulesOf r ≡ true
-  pub sized : slotFits r.head.slot ≡ true
-  pub room : length (plainAckOf r send recv) ≤ length output
-  pub long : n ≡ length (plainAckOf r send recv)
-  pub stands : (acknowledgeOf r send recv output).output ≡ plainAckOf r send recv atFrontOf output
+  pub keeps : rules_of r ≡ true
+  pub sized : slot_fits r.head.slot ≡ true
+  pub room : length (plain_ack_of r send recv) ≤ length output
+  pub long : n ≡ length (plain_ack_of r send recv)
+  pub stands : (acknowledge_of r send recv output).output ≡ plain_ack_of r send recv at_front_of output
 
-only-7 : (t : Bool) (m n : ℕ) → (refusal 7 when t else values (m ∷ [])) ≡ refusal n → n ≡ 7
-only-7 true m n e = cc
-only-7 false m n e = let z : ◌≡◌ {A = ℕ} 0 1 = cc in absurd (omega arith)
+only_7 : (t : Bool) (m n : ℕ) → (refusal 7 when t else values (m ∷ [])) ≡ refusal n → n ≡ 7
+only_7 true m n e = cc
+only_7 false m n e = let z : ◌≡◌ {A = ℕ} 0 1 = cc in absurd (omega arith)
 
 module _ (r : Receiver) (send recv : StreamId) where
   -- The plain ack of a receiver that keeps the rules reads as that receiver's ack.
-  pub plain-ack-reads : rulesOf r ≡ true → send.0 < 2 ^ 32 → recv.0 < 2 ^ 32 → ReadsAs r send recv (plainAckOf r send recv)
-  unfolding plainAck
-  plain-ack-reads keeps s t = acked-reads r send recv keeps 0 [] s t (omega arith) (omega arith)
+  pub plain_ack_reads : rules_of r ≡ true → send.0 < 2 ^ 32 → recv.0 < 2 ^ 32 → ReadsAs r send recv (plain_ack_of r send recv)
+  unfolding plain_ack
+  plain_ack_reads keeps s t = acked_reads r send recv keeps 0 [] s t (omega arith) (omega arith)
 
   -- THE CALL
 
   module _ (output : List ℕ) where
-    said-is : acknowledgeSaid r send recv (length output) ≡ (acknowledgeOf r send recv output).says
-    unfolding acknowledgeOf
+    said-is : acknowledge_said r send recv (length output) ≡ (acknowledge_of r send recv output).says
+    unfolding acknowledge_of
     said-is = refl
 
     -- a refusal changes nothing
-    pub acknowledge-nothing : (n : ℕ) → (acknowledgeOf r send recv output).says ≡ refusal n → (acknowledgeOf r send recv output).output ≡ output
-    unfolding acknowledgeOf
+    pub acknowledge-nothing : (n : ℕ) → (acknowledge_of r send recv output).says ≡ refusal n → (acknowledge_of r send recv output).output ≡ output
+    unfolding acknowledge_of
     acknowledge-nothing n e = rw e
 
     -- a state that breaks the rules is refused with 11, and a slot size out of range with 10
-    pub acknowledge-broken : rulesOf r ≡ false → (acknowledgeOf r send recv output).says ≡ refusal 11
-    unfolding acknowledgeOf acknowledgeSaid
-    acknowledge-broken e = simp e
+    pub acknowledge_broken : rules_of r ≡ false → (acknowledge_of r send recv output).says ≡ refusal 11
+    unfolding acknowledge_of acknowledge_said
+    acknowledge_broken e = simp e
 
-    pub acknowledge-unfit : rulesOf r ≡ true → slotFits r.head.slot ≡ false → (acknowledgeOf r send recv output).says ≡ refusal 10
-    unfolding acknowledgeOf acknowledgeSaid
+    pub acknowledge-unfit : rules_of r ≡ true → slot_fits r.head.slot ≡ false → (acknowledge_of r send recv output).says ≡ refusal 10
+    unfolding acknowledge_of acknowledge_said
     acknowledge-unfit e f = simp (e, f)
 
     -- else its length decides
-    pub acknowledge-by-room : rulesOf r ≡ true → slotFits r.head.slot ≡ true
-        → (acknowledgeOf r send recv output).says ≡ (refusal 7 when ltb (length output) (length (plainAckOf r send recv)) else values (length (plainAckOf r send recv) ∷ []))
-    unfolding acknowledgeOf acknowledgeSaid
-    acknowledge-by-room e f = simp (e, f)
+    pub acknowledge_by_room : rules_of r ≡ true → slot_fits r.head.slot ≡ true
+        → (acknowledge_of r send recv output).says ≡ (refusal 7 when ltb (length output) (length (plain_ack_of r send recv)) else values (length (plain_ack_of r send recv) ∷ []))
+    unfolding acknowledge_of acknowledge_said
+    acknowledge_by_room e f = simp (e, f)
 
     -- a refused call: with 7 where neither the rules nor the slot size were at fault
-    pub acknowledge-fair : rulesOf r ≡ true → slotFits r.head.slot ≡ true → (n : ℕ) → (acknowledgeOf r send recv output).says ≡ refusal n → n ≡ 7
-    acknowledge-fair e f n h =
-        only-7 (ltb (length output) (length (plainAckOf r send recv))) (length (plainAckOf r send recv)) n (sym (acknowledge-by-room e f) ∙ h)
+    pub acknowledge_fair : rules_of r ≡ true → slot_fits r.head.slot ≡ true → (n : ℕ) → (acknowledge_of r send recv output).says ≡ refusal n → n ≡ 7
+    acknowledge_fair e f n h =
+        only_7 (ltb (length output) (length (plain_ack_of r send recv))) (length (plain_ack_of r send recv)) n (sym (acknowledge_by_room e f) ∙ h)
 
     -- so of a state and a store that belong together
-    pub acknowledge-sound : (store : List ℕ) → Sound r store → (n : ℕ) → (acknowledgeOf r send recv output).says ≡ refusal n → n ≡ 7
-    unfolding sizesFit
+    pub acknowledge-sound : (store : List ℕ) → Sound r store → (n : ℕ) → (acknowledge_of r send recv output).says ≡ refusal n → n ≡ 7
+    unfolding sizes_fit
     acknowledge-sound store sound n h =
-        acknowledge-fair sound.keeps (and_left (slotFits r.head.slot) (eqb (length store) (512 * r.head.slot)) sound.fits) n h
+        acknowledge_fair sound.keeps (and_left (slot_fits r.head.slot) (eqb (length store) (512 * r.head.slot)) sound.fits) n h
 
     -- An output of 1,044 bytes is always enough: the ack is written unless the state is at fault, and is never refused with 7.
-    pub acknowledge-enough : rulesOf r ≡ true → slotFits r.head.slot ≡ true → 1044 ≤ length output
-        → (acknowledgeOf r send recv output).says ≡ values (length (plainAckOf r send recv) ∷ [])
-    acknowledge-enough e f room =
-        acknowledge-by-room e f ∙ rw (le-ltb (length output) (length (plainAckOf r send recv)) (omega (arith, at-most-1044 r send recv)))
+    pub acknowledge_enough : rules_of r ≡ true → slot_fits r.head.slot ≡ true → 1044 ≤ length output
+        → (acknowledge_of r send recv output).says ≡ values (length (plain_ack_of r send recv) ∷ [])
+    acknowledge_enough e f room =
+        acknowledge_by_room e f ∙ rw (le-ltb (length output) (length (plain_ack_of r send recv)) (omega (arith, at_most_1044 r send recv)))
 
-    pub acknowledge-never-7 : 1044 ≤ length output → (acknowledgeOf r send recv output).says ≡ refusal 7 → ⊥
-    unfolding acknowledgeOf acknowledgeSaid
-    acknowledge-never-7 room =
-        let p = plainAckOf r send recv in
-        rung (λ (s : Said). s ≡ refusal 7 → ⊥) (not (rulesOf r)) (λ e h. let z : ◌≡◌ {A = ℕ} 11 7 = cc in omega arith)
+    pub acknowledge_never_7 : 1044 ≤ length output → (acknowledge_of r send recv output).says ≡ refusal 7 → ⊥
+    unfolding acknowledge_of acknowledge_said
+    acknowledge_never_7 room =
+        let p = plain_ack_of r send recv in
+        rung (λ (s : Said). s ≡ refusal 7 → ⊥) (not (rules_of r)) (λ e h. let z : ◌≡◌ {A = ℕ} 11 7 = cc in omega arith)
         (λ e.
-        rung (λ (s : Said). s ≡ refusal 7 → ⊥) (not (slotFits r.head.slot)) (λ f h. let z : ◌≡◌ {A = ℕ} 10 7 = cc in omega arith)
+        rung (λ (s : Said). s ≡ refusal 7 → ⊥) (not (slot_fits r.head.slot)) (λ f h. let z : ◌≡◌ {A = ℕ} 10 7 = cc in omega arith)
         (λ f.
-        rung (λ (s : Said). s ≡ refusal 7 → ⊥) (ltb (length output) (length p)) (λ g h. omega (arith, ltb-true (length output) (length p) g, at-most-1044 r send recv))
+        rung (λ (s : Said). s ≡ refusal 7 → ⊥) (ltb (length output) (length p)) (λ g h. omega (arith, ltb-true (length output) (length p) g, at_most_1044 r send recv))
         (λ g h. let z : ◌≡◌ {A = ℕ} 0 1 = cc in omega arith)))
 
-    module _ (n : ℕ) (done : (acknowledgeOf r send recv output).says ≡ values (n ∷ [])) where
+    module _ (n : ℕ) (done : (acknowledge_of r send recv output).says ≡ values (n ∷ [])) where
       pub acknowledge-written : Written r send recv output n
-      unfolding acknowledgeOf acknowledgeSaid
+      unfolding acknowledge_of acknowledge_said
       acknowledge-written =
-          let p = plainAckOf r send recv in
-          let a = past 11 (not (rulesOf r)) _ (n ∷ []) done in
-          let b = past 10 (not (slotFits r.head.slot)) _ (n ∷ []) a.1 in
+          let p = plain_ack_of r send recv in
+          let a = past 11 (not (rules_of r)) _ (n ∷ []) done in
+          let b = past 10 (not (slot_fits r.head.slot)) _ (n ∷ []) a.1 in
           let c = past 7 (ltb (length output) (length p)) (values (length p ∷ [])) (n ∷ []) b.1 in
           record {
-            keeps = not-false (rulesOf r) a.0;
-            sized = not-false (slotFits r.head.slot) b.0;
+            keeps = not-false (rules_of r) a.0;
+            sized = not-false (slot_fits r.head.slot) b.0;
             room = ltb-false (length output) (length p) c.0;
             long = let e = c.1 in cc;
             stands = rw done;
           }
 
       -- So the first n bytes of the output read as the receiver's ack.
-      pub acknowledge-reads : send.0 < 2 ^ 32 → recv.0 < 2 ^ 32 → ReadsAs r send recv (take n (acknowledgeOf r send recv output).output)
+      pub acknowledge-reads : send.0 < 2 ^ 32 → recv.0 < 2 ^ 32 → ReadsAs r send recv (take n (acknowledge_of r send recv output).output)
       acknowledge-reads s t =
           let w = acknowledge-written in
-          let p = plainAckOf r send recv in
-          let begins : take n (acknowledgeOf r send recv output).output ≡ p = rw w.stands (take_at p (drop (length p) output) n (sym w.long)) in
-          rw begins (plain-ack-reads w.keeps s t)
+          let p = plain_ack_of r send recv in
+          let begins : take n (acknowledge_of r send recv output).output ≡ p = rw w.stands (take_at p (drop (length p) output) n (sym w.long)) in
+          rw begins (plain_ack_reads w.keeps s t)

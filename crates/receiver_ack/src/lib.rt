@@ -3,12 +3,12 @@
 // are missing, ack-through stands before the first that no NACK names, so that missing data never counts as received.
 ghost use Rattle.std.specs.Prelude.{◌≡◌, ◌+◌, ◌≤◌, [], ◌∷◌, ltb, length};
 ghost use Rattle.terms.specs.Ladder.{◌when◌else◌};
-ghost use Rattle.terms.specs.Lists.{◌atFrontOf◌};
-ghost use Rattle.terms.specs.Answers.{refusal, values, ◌unlessRefused◌else◌};
+ghost use Rattle.terms.specs.Lists.{◌at_front_of◌};
+ghost use Rattle.terms.specs.Answers.{refusal, values, ◌unless_refused◌else◌};
 ghost use Rattle.receiver_state.specs.Answers.{◌over◌};
-ghost use Rattle.receiver_ack.specs.Missing.{missingFrom};
-ghost use Rattle.receiver_ack.specs.Fields.{fieldsFrom};
-ghost use Rattle.receiver_ack.specs.Acknowledge.{saidAck, acknowledged, plainAck, acknowledgeOf};
+ghost use Rattle.receiver_ack.specs.Missing.{missing_from};
+ghost use Rattle.receiver_ack.specs.Fields.{fields_from};
+ghost use Rattle.receiver_ack.specs.Acknowledge.{said_ack, acknowledged, plain_ack, acknowledge_of};
 
 use packet_read::flags;
 use packet_write::{Fields, Writing};
@@ -41,8 +41,8 @@ pub enum Acknowledged {
 // `InboundContext`, which the marks make needless: one pass over the numbers from next to highest.
 fn list_missing(next: SeqNo, highest: SeqNo, marks: &[u16], missing: &mut [u32; 512]) -> usize
     requires { (length marks.now ≡ 512) × (length missing.old ≡ 512) × (highest.0 ≤ next.0 + 511) × (highest.0 ≤ 4294967294) }
-    ensures value { result ≡ length (missingFrom next.0 highest.0 marks.now) }
-    ensures missing_after { missing.new ≡ missingFrom next.0 highest.0 marks.now atFrontOf (λ x. x.now) missing.entry }
+    ensures value { result ≡ length (missing_from next.0 highest.0 marks.now) }
+    ensures missing_after { missing.new ≡ missing_from next.0 highest.0 marks.now at_front_of (λ x. x.now) missing.entry }
 {
     let mut count = 0;
     let mut number = next.0;
@@ -63,8 +63,8 @@ fn list_missing(next: SeqNo, highest: SeqNo, marks: &[u16], missing: &mut [u32; 
 // `receiver_state::rules_hold` tells.
 pub fn fields(next: SeqNo, highest: SeqNo, marks: &[u16], missing: &mut [u32; 512]) -> AckFields
     requires { (length marks.now ≡ 512) × (length missing.old ≡ 512) × (highest.0 ≤ next.0 + 511) × (highest.0 ≤ 4294967294) }
-    ensures value { result ≡ fieldsFrom next.0 highest.0 marks.now }
-    ensures missing_after { missing.new ≡ missingFrom next.0 highest.0 marks.now atFrontOf (λ x. x.now) missing.entry }
+    ensures value { result ≡ fields_from next.0 highest.0 marks.now }
+    ensures missing_after { missing.new ≡ missing_from next.0 highest.0 marks.now at_front_of (λ x. x.now) missing.entry }
 {
     let count = list_missing(next, highest, marks, missing);
     if count < MAX_NACKS {
@@ -102,9 +102,9 @@ fn plain(
     output: &mut [u8],
 ) -> Acknowledged
     requires { (length marks.now ≡ 512) × (highest.0 ≤ next.0 + 511) × (highest.0 ≤ 4294967294) }
-    ensures result_value { saidAck result ≡ (refusal 7 when ltb (length output.old) (length (plainAck next.0 highest.0 marks.now send recv))
-        else values (length (plainAck next.0 highest.0 marks.now send recv) ∷ [])) }
-    ensures output_after { output.new ≡ (plainAck next.0 highest.0 marks.now send recv atFrontOf (λ x. x.now) output.entry unlessRefused saidAck result else (λ x. x.now) output.entry) }
+    ensures result_value { said_ack result ≡ (refusal 7 when ltb (length output.old) (length (plain_ack next.0 highest.0 marks.now send recv))
+        else values (length (plain_ack next.0 highest.0 marks.now send recv) ∷ [])) }
+    ensures output_after { output.new ≡ (plain_ack next.0 highest.0 marks.now send recv at_front_of (λ x. x.now) output.entry unless_refused said_ack result else (λ x. x.now) output.entry) }
 {
     let mut missing = [0u32; 512];
     let acks = fields(next, highest, marks, &mut missing);
@@ -136,7 +136,7 @@ fn acknowledge_in(
     output: &mut [u8],
 ) -> Acknowledged
     requires { length marks.now ≡ 512 }
-    ensures { acknowledged result output.new ≡ acknowledgeOf (h over (λ x. x.now) marks.entry) send recv output.old }
+    ensures { acknowledged result output.new ≡ acknowledge_of (h over (λ x. x.now) marks.entry) send recv output.old }
 {
     if !receiver_state::rules_hold(h, marks) {
         return Acknowledged::Refused(Refusal::StateBroken);
@@ -151,7 +151,7 @@ fn acknowledge_in(
 // fields, and no payload. Ports the plain ack of `poll`, without its closing form. Refusals in document 01's order: 11, 10, 7. An
 // output of 1,044 bytes is always enough.
 pub fn acknowledge(r: Receiver, send: StreamId, recv: StreamId, output: &mut [u8]) -> Acknowledged
-    ensures { acknowledged result output.new ≡ acknowledgeOf r send recv output.old }
+    ensures { acknowledged result output.new ≡ acknowledge_of r send recv output.old }
 {
     acknowledge_in(r.head, &r.marks, send, recv, output)
 }

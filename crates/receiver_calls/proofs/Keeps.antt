@@ -8,7 +8,7 @@ use lib.ListN.{length, get_or, set, length-set}
 use lib.Seq.{get_or-set_same, get_or-set_other}
 use Rattle.terms.proofs.Laws.{case}
 use Rattle.terms.specs.declared.SeqNo.{SeqNo}
-use Rattle.receiver_state.specs.Slots.{mark_of, slotNumber}
+use Rattle.receiver_state.specs.Slots.{mark_of, slot_number}
 use Rattle.receiver_state.specs.declared.Receiver.{Receiver}
 use Rattle.receiver_calls.specs.Accept.{entering}
 use Rattle.receiver_calls.specs.Take.{passing}
@@ -19,31 +19,31 @@ pub apart : (next m n : ℕ) → next ≤ m → m - next < 512 → next ≤ n �
 apart next m n a b c d e f = e (omega arith)
 
 -- the number that a slot stands for is the one of the span that has the slot
-pub number_is : (next n : ℕ) → next ≤ n → n - next < 512 → slotNumber next (n % 512) ≡ n
+pub number_is : (next n : ℕ) → next ≤ n → n - next < 512 → slot_number next (n % 512) ≡ n
 number_is next n a b = omega arith
 
-number-slot : (next k : ℕ) → k < 512 → slotNumber next k % 512 ≡ k
+number-slot : (next k : ℕ) → k < 512 → slot_number next k % 512 ≡ k
 number-slot next k h = omega arith
 
-later : (next m : ℕ) → next ≤ m → m - next < 512 → (m ≡ next → ⊥) → slotNumber (next + 1) (m % 512) ≡ m
+later : (next m : ℕ) → next ≤ m → m - next < 512 → (m ≡ next → ⊥) → slot_number (next + 1) (m % 512) ≡ m
 later next m a b n = number_is (next + 1) m (omega (arith, n)) (omega arith)
 
 -- when next goes on, every slot but its own stands for the number that it stood for
-pub number-later : (next k : ℕ) → k < 512 → (k ≡ next % 512 → ⊥) → slotNumber (next + 1) k ≡ slotNumber next k
+pub number-later : (next k : ℕ) → k < 512 → (k ≡ next % 512 → ⊥) → slot_number (next + 1) k ≡ slot_number next k
 number-later next k h n =
-    let m = slotNumber next k in
+    let m = slot_number next k in
     let s : m % 512 ≡ k = number-slot next k h in
     let o : m ≡ next → ⊥ = λ e. n (sym s ∙ ap (λ (x : ℕ). x % 512) e) in
     let low : next ≤ m = omega arith in
     let near : m - next < 512 = omega arith in
-    sym (ap (slotNumber (next + 1)) s) ∙ later next m low near o
+    sym (ap (slot_number (next + 1)) s) ∙ later next m low near o
 
 module _ (marks : List ℕ) (long : length marks ≡ 512) (number mark : ℕ) where
   pub mark-same : mark_of (set marks (number % 512) mark) number ≡ mark
   mark-same = get_or-set_same marks (number % 512) mark 0 (omega arith)
 
-  pub mark-other : (m : ℕ) → (m % 512 ≡ number % 512 → ⊥) → mark_of (set marks (number % 512) mark) m ≡ mark_of marks m
-  mark-other m n = get_or-set_other marks (number % 512) (m % 512) mark 0 n
+  pub mark_other : (m : ℕ) → (m % 512 ≡ number % 512 → ⊥) → mark_of (set marks (number % 512) mark) m ≡ mark_of marks m
+  mark_other m n = get_or-set_other marks (number % 512) (m % 512) mark 0 n
 
   -- a fact of each mark, after a store
   pub each-mark : (P : ℕ → ℕ → Type 0) → P (number % 512) mark → ((k : ℕ) → k < 512 → (k ≡ number % 512 → ⊥) → P k (get_or marks k 0))
@@ -80,10 +80,10 @@ module _ (r : Receiver) (long : length r.marks ≡ 512) (f : Ruled r) where
             (λ (o : max highest number % 512 ≡ number % 512 → ⊥).
             let m : max highest number ≡ highest =
             case (λ (q : number ≤ highest). omega arith) (λ (q : number ≤ highest → ⊥). absurd (o (ap (λ (x : ℕ). x % 512) (omega arith)))) (dec_le number highest) in
-            rw (mark-other marks long number (size + 1) (max highest number) o, m) (f.top (omega (arith, n))))
+            rw (mark_other marks long number (size + 1) (max highest number) o, m) (f.top (omega (arith, n))))
             (ℕ_discrete (max highest number % 512) (number % 512));
         last = omega (arith, f.last);
-        free = each-mark marks long number (size + 1) (λ (k m : ℕ). max highest number < slotNumber next k → m ≡ 0)
+        free = each-mark marks long number (size + 1) (λ (k m : ℕ). max highest number < slot_number next k → m ≡ 0)
             (λ a. absurd (omega arith))
             (λ k h n a. f.free k (omega arith) (omega arith));
         short = each-mark marks long number (size + 1) (λ (k m : ℕ). m - 1 ≤ r.head.slot)
@@ -100,9 +100,9 @@ module _ (r : Receiver) (long : length r.marks ≡ 512) (f : Ruled r) where
     far = omega (arith, f.far);
     top = λ n.
         let o : highest % 512 ≡ next % 512 → ⊥ = apart next highest next below (omega (arith, f.far)) (omega arith) (omega arith) (λ e. n (omega arith)) in
-        rw (mark-other marks long next 0 highest o) (f.top (λ e. omega arith));
+        rw (mark_other marks long next 0 highest o) (f.top (λ e. omega arith));
     last = f.last;
-    free = each-mark marks long next 0 (λ (k m : ℕ). highest < slotNumber (next + 1) k → m ≡ 0)
+    free = each-mark marks long next 0 (λ (k m : ℕ). highest < slot_number (next + 1) k → m ≡ 0)
         (λ a. refl)
         (λ k h n a. f.free k (omega arith) (subst (λ (x : ℕ). highest < x) (number-later next k h n) a));
     short = each-mark marks long next 0 (λ (k m : ℕ). m - 1 ≤ r.head.slot)

@@ -12,26 +12,26 @@ use lib.Dec.{leb, ltb, eqb}
 use lib.ListN.{length, set, replicate, length-set, length-take, length-drop, get_or-replicate}
 use Rattle.terms.specs.declared.SeqNo.{SeqNo}
 use Rattle.terms.specs.Ladder.{◌when◌else◌}
-use Rattle.terms.specs.Lists.{◌atFrontOf◌}
+use Rattle.terms.specs.Lists.{◌at_front_of◌}
 use Rattle.terms.proofs.Laws.{case, and_left, and_right, past}
 use Rattle.terms.specs.Answers.{Said, refusal, values}
-use Rattle.receiver_state.specs.Slots.{isFree, is_held, length_of, mark_of, offset_of, filled, heldBytes}
-use Rattle.receiver_state.specs.Rules.{rulesOf, slotFits, sizesFit}
-use Rattle.receiver_state.specs.Start.{startSaid, start_of, fresh, unusable}
-use Rattle.receiver_calls.specs.Accept.{acceptSaid, entering, acceptOf}
-use Rattle.receiver_calls.specs.Take.{takeSaid, passing, take_of}
-use Rattle.receiver_calls.specs.Meaning.{taken, held, missing, unseen, standing, isMissing, Sound, acceptBy, takeBy}
+use Rattle.receiver_state.specs.Slots.{is_free, is_held, length_of, mark_of, offset_of, filled, held_bytes}
+use Rattle.receiver_state.specs.Rules.{rules_of, slot_fits, sizes_fit}
+use Rattle.receiver_state.specs.Start.{start_said, start_of, fresh, unusable}
+use Rattle.receiver_calls.specs.Accept.{accept_said, entering, accept_of}
+use Rattle.receiver_calls.specs.Take.{take_said, passing, take_of}
+use Rattle.receiver_calls.specs.Meaning.{taken, held, missing, unseen, standing, is_missing, Sound, accept_by, take_by}
 use Rattle.receiver_state.specs.declared.Receiver.{Receiver}
-use Rattle.receiver_state.proofs.Facts.{Ruled, ruled, rules-of, sized}
-use Rattle.receiver_calls.proofs.Outcomes.{slot-in, accept-refused, accept-done, Passed, passed, take-refused, take_done, held-short, Gives, gives}
-use Rattle.receiver_calls.proofs.Keeps.{apart, number_is, mark-same, mark-other, accept-keeps, take-keeps}
-use Rattle.receiver_calls.proofs.Standings.{is-taken, is-unseen, is-missing, is-held, filled-length, filled-here, filled-other}
+use Rattle.receiver_state.proofs.Facts.{Ruled, ruled, rules_of_lem, sized}
+use Rattle.receiver_calls.proofs.Outcomes.{slot_in, accept-refused, accept_done, Passed, passed, take-refused, take_done, held-short, Gives, gives}
+use Rattle.receiver_calls.proofs.Keeps.{apart, number_is, mark-same, mark_other, accept-keeps, take-keeps}
+use Rattle.receiver_calls.proofs.Standings.{is-taken, is-unseen, is-missing, is-held, filled-length, filled_here, filled_other}
 
 -- a number lies below next, above highest, or between them with a free or a held slot
-pub where-is : {C : Type 0} (r : Receiver) (n : ℕ) → (n < r.head.next.0 → C) → (r.head.next.0 ≤ n → r.head.highest.0 < n → C)
+pub where_is : {C : Type 0} (r : Receiver) (n : ℕ) → (n < r.head.next.0 → C) → (r.head.next.0 ≤ n → r.head.highest.0 < n → C)
     → (r.head.next.0 ≤ n → n ≤ r.head.highest.0 → mark_of r.marks n ≡ 0 → C)
     → (r.head.next.0 ≤ n → n ≤ r.head.highest.0 → (mark_of r.marks n ≡ 0 → ⊥) → C) → C
-where-is r n below above free full =
+where_is r n below above free full =
     case below
     (λ (a : n < r.head.next.0 → ⊥).
     case (above (omega arith))
@@ -43,44 +43,44 @@ pub facts : (r : Receiver) (store : List ℕ) → Sound r store → Ruled r
 facts r store sound = ruled r sound.keeps
 
 -- the bytes of a slot are as many as its mark says
-pub held-length : (r : Receiver) (store : List ℕ) → Sound r store → (n : ℕ) → length (heldBytes r.marks r.head.slot store n) ≡ length_of (mark_of r.marks n)
+pub held-length : (r : Receiver) (store : List ℕ) → Sound r store → (n : ℕ) → length (held_bytes r.marks r.head.slot store n) ≡ length_of (mark_of r.marks n)
 held-length r store sound n =
     let short = held-short r sound.table (facts r store sound) n in
     let sizes = sized r.head.slot (length store) sound.fits in
-    simp (length-take, length-drop) (omega (arith, slot-in r.head.slot n (length store) sizes.store))
+    simp (length-take, length-drop) (omega (arith, slot_in r.head.slot n (length store) sizes.store))
 
 -- where a number lies, from its standing
 module _ (r : Receiver) (store : List ℕ) (n : ℕ) where
   pub taken-below : standing r store n ≡ taken → n < r.head.next.0
   taken-below e =
-      where-is r n (λ a. a)
+      where_is r n (λ a. a)
       (λ a b. let s = is-unseen r store n a b in let z : ◌≡◌ {A = ℕ} 0 1 = cc in absurd (omega arith))
       (λ a b f. let s = is-missing r store n a b f in let z : ◌≡◌ {A = ℕ} 0 1 = cc in absurd (omega arith))
       (λ a b f. let s = is-held r store n a b f in let z : ◌≡◌ {A = ℕ} 0 1 = cc in absurd (omega arith))
 
-  pub unseen-above : standing r store n ≡ unseen → r.head.highest.0 < n
-  unseen-above e =
-      where-is r n
+  pub unseen_above : standing r store n ≡ unseen → r.head.highest.0 < n
+  unseen_above e =
+      where_is r n
       (λ a. let s = is-taken r store n a in let z : ◌≡◌ {A = ℕ} 0 1 = cc in absurd (omega arith))
       (λ a b. b)
       (λ a b f. let s = is-missing r store n a b f in let z : ◌≡◌ {A = ℕ} 0 1 = cc in absurd (omega arith))
       (λ a b f. let s = is-held r store n a b f in let z : ◌≡◌ {A = ℕ} 0 1 = cc in absurd (omega arith))
 
-  pub above-unseen : Sound r store → r.head.highest.0 < n → standing r store n ≡ unseen
-  above-unseen sound b = is-unseen r store n (omega (arith, (facts r store sound).low)) b
+  pub above_unseen : Sound r store → r.head.highest.0 < n → standing r store n ≡ unseen
+  above_unseen sound b = is-unseen r store n (omega (arith, (facts r store sound).low)) b
 
   -- missing, with no store to look at
-  pub missing-told : isMissing r n ≡ true → standing r store n ≡ missing
+  pub missing-told : is_missing r n ≡ true → standing r store n ≡ missing
   missing-told t =
-      let inner = and_right (leb r.head.next.0 n) (leb n r.head.highest.0 && isFree (mark_of r.marks n)) t in
+      let inner = and_right (leb r.head.next.0 n) (leb n r.head.highest.0 && is_free (mark_of r.marks n)) t in
       is-missing r store n
-      (leb-true r.head.next.0 n (and_left (leb r.head.next.0 n) (leb n r.head.highest.0 && isFree (mark_of r.marks n)) t))
-      (leb-true n r.head.highest.0 (and_left (leb n r.head.highest.0) (isFree (mark_of r.marks n)) inner))
-      (eqb-true (mark_of r.marks n) 0 (and_right (leb n r.head.highest.0) (isFree (mark_of r.marks n)) inner))
+      (leb-true r.head.next.0 n (and_left (leb r.head.next.0 n) (leb n r.head.highest.0 && is_free (mark_of r.marks n)) t))
+      (leb-true n r.head.highest.0 (and_left (leb n r.head.highest.0) (is_free (mark_of r.marks n)) inner))
+      (eqb-true (mark_of r.marks n) 0 (and_right (leb n r.head.highest.0) (is_free (mark_of r.marks n)) inner))
 
-  pub told-missing : standing r store n ≡ missing → isMissing r n ≡ true
+  pub told-missing : standing r store n ≡ missing → is_missing r n ≡ true
   told-missing e =
-      where-is r n
+      where_is r n
       (λ a. let s = is-taken r store n a in let z : ◌≡◌ {A = ℕ} 0 1 = cc in absurd (omega arith))
       (λ a b. let s = is-unseen r store n a b in let z : ◌≡◌ {A = ℕ} 0 1 = cc in absurd (omega arith))
       (λ a b f. simp (le-leb r.head.next.0 n a, le-leb n r.head.highest.0 b, eq-eqb (mark_of r.marks n) 0 f))
@@ -102,20 +102,20 @@ fair answer f n e = rw e at f
 
 -- a state that breaks the rules is refused with 11, and sizes that do not fit with 10, whatever else is given
 module _ (r : Receiver) where
-  pub accept-broken : (number : SeqNo) (payload store : List ℕ) → rulesOf r ≡ false → (acceptOf r number payload store).says ≡ refusal 11
-  unfolding acceptOf acceptSaid
-  accept-broken number payload store e = simp e
+  pub accept_broken : (number : SeqNo) (payload store : List ℕ) → rules_of r ≡ false → (accept_of r number payload store).says ≡ refusal 11
+  unfolding accept_of accept_said
+  accept_broken number payload store e = simp e
 
-  pub accept-unfit : (number : SeqNo) (payload store : List ℕ) → rulesOf r ≡ true → sizesFit r.head.slot (length store) ≡ false → (acceptOf r number payload store).says ≡ refusal 10
-  unfolding acceptOf acceptSaid
+  pub accept-unfit : (number : SeqNo) (payload store : List ℕ) → rules_of r ≡ true → sizes_fit r.head.slot (length store) ≡ false → (accept_of r number payload store).says ≡ refusal 10
+  unfolding accept_of accept_said
   accept-unfit number payload store e f = simp (e, f)
 
-  pub take-broken : (store output : List ℕ) → rulesOf r ≡ false → (take_of r store output).says ≡ refusal 11
-  unfolding take_of takeSaid
-  take-broken store output e = simp e
+  pub take_broken : (store output : List ℕ) → rules_of r ≡ false → (take_of r store output).says ≡ refusal 11
+  unfolding take_of take_said
+  take_broken store output e = simp e
 
-  pub take-unfit : (store output : List ℕ) → rulesOf r ≡ true → sizesFit r.head.slot (length store) ≡ false → (take_of r store output).says ≡ refusal 10
-  unfolding take_of takeSaid
+  pub take-unfit : (store output : List ℕ) → rules_of r ≡ true → sizes_fit r.head.slot (length store) ≡ false → (take_of r store output).says ≡ refusal 10
+  unfolding take_of take_said
   take-unfit store output e f = simp (e, f)
 
 -- an answer is a refusal or gives values
@@ -131,28 +131,28 @@ module _ (s : SeqNo) (slot : ℕ) (store : List ℕ) where
   start-refused n e = rw e
 
   module _ (done : (start_of s slot (length store)).says ≡ values []) where
-    pub start-done : (start_of s slot (length store)).state ≡ fresh s slot
-    start-done = rw done
+    pub start_done : (start_of s slot (length store)).state ≡ fresh s slot
+    start_done = rw done
 
     -- up to s a number counts as taken, and above s it is not yet seen
     pub start-standing : (n : ℕ) → standing (start_of s slot (length store)).state store n ≡ (taken when leb n s.0 else unseen)
     start-standing n =
-        rw start-done
+        rw start_done
         (case
         (λ (a : n ≤ s.0). rw (le-leb n s.0 a) (is-taken (fresh s slot) store n (omega arith)))
         (λ (a : n ≤ s.0 → ⊥). rw (lt-leb n s.0 (omega arith)) (is-unseen (fresh s slot) store n (omega arith) (omega arith)))
         (dec_le n s.0))
 
     pub start-sound : s.0 ≤ 4294967295 → Sound (start_of s slot (length store)).state store
-    unfolding startSaid
+    unfolding start_said
     start-sound width =
-        let p10 = past 10 (not (sizesFit slot (length store))) _ [] done in
+        let p10 = past 10 (not (sizes_fit slot (length store))) _ [] done in
         let p12 = past 12 (eqb s.0 4294967295) (values []) [] p10.1 in
         let usable = eqb-false s.0 4294967295 p12.0 in
-        rw start-done
+        rw start_done
         (record {
           table = refl;
-          keeps = rules-of (fresh s slot)
+          keeps = rules_of_lem (fresh s slot)
               (record {
                 one = omega arith;
                 late = omega arith;
@@ -163,12 +163,12 @@ module _ (s : SeqNo) (slot : ℕ) (store : List ℕ) where
                 free = λ k h a. get_or-replicate 512 k 0 0 h;
                 short = λ k h. rw (get_or-replicate {A = ℕ} 512 k 0 0 h) (omega arith);
               });
-          fits = not-false (sizesFit slot (length store)) p10.0;
+          fits = not-false (sizes_fit slot (length store)) p10.0;
         })
 
-pub unusable-broken : rulesOf unusable ≡ false
-unfolding rulesOf
-unusable-broken = refl
+pub unusable_broken : rules_of unusable ≡ false
+unfolding rules_of
+unusable_broken = refl
 
 -- ACCEPT
 
@@ -176,21 +176,21 @@ unusable-broken = refl
 -- leapt over become missing; every other number keeps its standing and its bytes
 pub record Entered (r : Receiver) (number : SeqNo) (payload store : List ℕ) : Type 0 where
   pub was : (standing r store number.0 ≡ missing) ⊎ (standing r store number.0 ≡ unseen)
-  pub now-held : standing (acceptOf r number payload store).state (acceptOf r number payload store).lent number.0 ≡ held payload
+  pub now_held : standing (accept_of r number payload store).state (accept_of r number payload store).lent number.0 ≡ held payload
   pub others : (m : ℕ) → (m ≡ number.0 → ⊥)
-      → standing (acceptOf r number payload store).state (acceptOf r number payload store).lent m
+      → standing (accept_of r number payload store).state (accept_of r number payload store).lent m
       ≡ (missing when ltb r.head.highest.0 m && ltb m number.0 else standing r store m)
-  pub next-is : (acceptOf r number payload store).state.head.next ≡ r.head.next
-  pub highest-is : (acceptOf r number payload store).state.head.highest.0 ≡ max r.head.highest.0 number.0
+  pub next-is : (accept_of r number payload store).state.head.next ≡ r.head.next
+  pub highest-is : (accept_of r number payload store).state.head.highest.0 ≡ max r.head.highest.0 number.0
 
 module _ (r : Receiver) (number : SeqNo) (payload store : List ℕ) where
-  accept-is : acceptSaid r number (length payload) (length store) ≡ (acceptOf r number payload store).says
-  unfolding acceptOf
+  accept-is : accept_said r number (length payload) (length store) ≡ (accept_of r number payload store).says
+  unfolding accept_of
   accept-is = refl
 
   -- a refusal changes nothing
-  pub accept-nothing : (n : ℕ) → (acceptOf r number payload store).says ≡ refusal n
-      → ((acceptOf r number payload store).state ≡ r) × ((acceptOf r number payload store).lent ≡ store)
+  pub accept-nothing : (n : ℕ) → (accept_of r number payload store).says ≡ refusal n
+      → ((accept_of r number payload store).state ≡ r) × ((accept_of r number payload store).lent ≡ store)
   accept-nothing n e =
       let k = accept-refused r number payload store n (accept-is ∙ e) in
       (rw k, rw k)
@@ -199,11 +199,11 @@ module _ (r : Receiver) (number : SeqNo) (payload store : List ℕ) where
   abbrev here : Receiver
   here = entering r number (length payload)
 
-  module _ (given : List ℕ) (done : (acceptOf r number payload store).says ≡ values given) where
-    became : ((acceptOf r number payload store).state ≡ here) × ((acceptOf r number payload store).lent ≡ filled store r.head.slot number.0 payload)
+  module _ (given : List ℕ) (done : (accept_of r number payload store).says ≡ values given) where
+    became : ((accept_of r number payload store).state ≡ here) × ((accept_of r number payload store).lent ≡ filled store r.head.slot number.0 payload)
     unfolding entering
     became =
-        let k = accept-done r number payload store given (accept-is ∙ done) in
+        let k = accept_done r number payload store given (accept-is ∙ done) in
         (rw k, rw k)
 
     ok : Passed r number (length payload) (length store) given
@@ -211,63 +211,63 @@ module _ (r : Receiver) (number : SeqNo) (payload store : List ℕ) where
 
     -- the payload lies within the store
     inside : offset_of r.head.slot number.0 + length payload ≤ length store
-    inside = let p = ok in omega (arith, slot-in r.head.slot number.0 (length store) p.sizes.store)
+    inside = let p = ok in omega (arith, slot_in r.head.slot number.0 (length store) p.sizes.store)
 
     module _ (sound : Sound r store) where
-      now-here : standing here (filled store r.head.slot number.0 payload) number.0 ≡ held payload
+      now_here : standing here (filled store r.head.slot number.0 payload) number.0 ≡ held payload
       unfolding entering
-      now-here =
+      now_here =
           let p = ok in
           let same = mark-same r.marks sound.table number.0 (length payload + 1) in
           let e : length_of (length payload + 1) ≡ length payload = omega arith in
           is-held here (filled store r.head.slot number.0 payload) number.0 p.new (omega arith) (λ z. omega (arith, same))
-          ∙ ap held (rw (same, e) (filled-here store r.head.slot number.0 payload inside))
+          ∙ ap held (rw (same, e) (filled_here store r.head.slot number.0 payload inside))
 
-      now-there : (m : ℕ) → (m ≡ number.0 → ⊥)
+      now_there : (m : ℕ) → (m ≡ number.0 → ⊥)
           → standing here (filled store r.head.slot number.0 payload) m ≡ (missing when ltb r.head.highest.0 m && ltb m number.0 else standing r store m)
       unfolding entering
-      now-there m other =
+      now_there m other =
           let p = ok in
           let f = facts r store sound in
           let after = filled store r.head.slot number.0 payload in
-          where-is r m
+          where_is r m
           (λ a. is-taken here after m a ∙ sym (rw (le-ltb r.head.highest.0 m (omega (arith, f.low))) (is-taken r store m a)))
           (λ a b.
           case
           (λ (q : m < number.0).
           let o = apart r.head.next.0 m number.0 a (omega arith) p.new p.near other in
           let z : mark_of r.marks m ≡ 0 = f.free (m % 512) (omega (arith, sound.table)) (omega (arith, number_is r.head.next.0 m a (omega arith))) in
-          is-missing here after m a (omega arith) (mark-other r.marks sound.table number.0 (length payload + 1) m o ∙ z)
+          is-missing here after m a (omega arith) (mark_other r.marks sound.table number.0 (length payload + 1) m o ∙ z)
           ∙ sym (rw (lt-ltb r.head.highest.0 m b, lt-ltb m number.0 q)))
           (λ (q : m < number.0 → ⊥).
           is-unseen here after m a (omega (arith, other)) ∙ sym (rw (lt-ltb r.head.highest.0 m b, le-ltb m number.0 (omega arith)) (is-unseen r store m a b)))
           (dec_lt m number.0))
           (λ a b z.
           let o = apart r.head.next.0 m number.0 a (omega (arith, f.far)) p.new p.near other in
-          is-missing here after m a (omega arith) (mark-other r.marks sound.table number.0 (length payload + 1) m o ∙ z)
+          is-missing here after m a (omega arith) (mark_other r.marks sound.table number.0 (length payload + 1) m o ∙ z)
           ∙ sym (rw (le-ltb r.head.highest.0 m b) (is-missing r store m a b z)))
           (λ a b z.
           let o = apart r.head.next.0 m number.0 a (omega (arith, f.far)) p.new p.near other in
-          let k = mark-other r.marks sound.table number.0 (length payload + 1) m o in
-          let same : heldBytes (set r.marks (number.0 % 512) (length payload + 1)) r.head.slot after m ≡ heldBytes r.marks r.head.slot store m =
+          let k = mark_other r.marks sound.table number.0 (length payload + 1) m o in
+          let same : held_bytes (set r.marks (number.0 % 512) (length payload + 1)) r.head.slot after m ≡ held_bytes r.marks r.head.slot store m =
           rw k
-          (filled-other store r.head.slot number.0 payload inside m (length_of (mark_of r.marks m))
+          (filled_other store r.head.slot number.0 payload inside m (length_of (mark_of r.marks m))
           (held-short r sound.table f m) p.fits o) in
           is-held here after m a (omega arith) (λ e. z (sym k ∙ e)) ∙ ap held same
           ∙ sym (rw (le-ltb r.head.highest.0 m b) (is-held r store m a b z)))
 
-      pub accept-changes : Entered r number payload store
+      pub accept_changes : Entered r number payload store
       unfolding entering
-      accept-changes =
+      accept_changes =
           let p = ok in
           record {
-            was = where-is r number.0
+            was = where_is r number.0
                 (λ a. absurd (omega arith))
                 (λ a b. inr (is-unseen r store number.0 a b))
                 (λ a b z. inl (is-missing r store number.0 a b z))
                 (λ a b z. absurd (z p.free));
-            now-held = rw (became.0, became.1) now-here;
-            others = λ m o. rw (became.0, became.1) (now-there m o);
+            now_held = rw (became.0, became.1) now_here;
+            others = λ m o. rw (became.0, became.1) (now_there m o);
             next-is = ap (λ (x : Receiver). x.head.next) became.0;
             highest-is = ap (λ (x : Receiver). x.head.highest.0) became.0;
           }
@@ -278,28 +278,28 @@ module _ (r : Receiver) (number : SeqNo) (payload store : List ℕ) where
           let p = ok in
           record {
             table = simp length-set sound.table;
-            keeps = rules-of here
+            keeps = rules_of_lem here
                 (accept-keeps r sound.table (facts r store sound) number (length payload)
                 p.new p.near (omega (arith, p.usable)) p.fits);
             fits = rw (filled-length store r.head.slot number.0 payload inside) sound.fits;
           }
 
   -- accept keeps a sound state and store sound, whatever it is given
-  pub accept-sound : Sound r store → number.0 ≤ 4294967295 → Sound (acceptOf r number payload store).state (acceptOf r number payload store).lent
+  pub accept-sound : Sound r store → number.0 ≤ 4294967295 → Sound (accept_of r number payload store).state (accept_of r number payload store).lent
   accept-sound sound width =
-      by_said (acceptOf r number payload store).says
+      by_said (accept_of r number payload store).says
       (λ n e. let k = accept-nothing n e in rw (k.0, k.1) sound)
       (λ given e. let k = became given e in rw (k.0, k.1) (entering-sound given e sound width))
 
   -- its answer: 12, or by the standing of the number, so never 11 or 10
   pub accept-answer : Sound r store
-      → (acceptOf r number payload store).says ≡ (refusal 12 when eqb number.0 4294967295 else acceptBy (standing r store number.0) r number.0 (length payload))
-  unfolding acceptSaid
+      → (accept_of r number payload store).says ≡ (refusal 12 when eqb number.0 4294967295 else accept_by (standing r store number.0) r number.0 (length payload))
+  unfolding accept_said
   accept-answer sound =
       let f = facts r store sound in
       sym accept-is ∙ rw (sound.keeps, sound.fits)
       (ap (λ (rest : Said). refusal 12 when eqb number.0 4294967295 else rest)
-      (where-is r number.0
+      (where_is r number.0
       (λ a. rw (lt-ltb _ _ a, is-taken r store number.0 a))
       (λ a b.
       case
@@ -313,10 +313,10 @@ module _ (r : Receiver) (number : SeqNo) (payload store : List ℕ) where
       (λ a b z. rw (le-ltb _ _ a, is-held r store number.0 a b z, lt-leb 512 (number.0 - r.head.next.0) (omega (arith, f.far)), ne_eqb _ _ z))))
 
   -- none of its refusals is then 11 or 10
-  pub accept-fair : Sound r store → (n : ℕ) → (acceptOf r number payload store).says ≡ refusal n → (n ≡ 11 → ⊥) × (n ≡ 10 → ⊥)
-  unfolding acceptSaid Fair
-  accept-fair sound =
-      fair (acceptOf r number payload store).says
+  pub accept_fair : Sound r store → (n : ℕ) → (accept_of r number payload store).says ≡ refusal n → (n ≡ 11 → ⊥) × (n ≡ 10 → ⊥)
+  unfolding accept_said Fair
+  accept_fair sound =
+      fair (accept_of r number payload store).says
       (subst Fair (accept-is)
       (rw (sound.keeps, sound.fits)
       (rung 12 (eqb number.0 4294967295) _ (λ e. omega arith) (λ e. omega arith)
@@ -333,13 +333,13 @@ pub record Took (r : Receiver) (store output given : List ℕ) : Type 0 where
   pub bytes : List ℕ
   pub was : standing r store r.head.next.0 ≡ held bytes
   pub counted : given ≡ length bytes ∷ []
-  pub output-is : (take_of r store output).lent ≡ bytes atFrontOf output
+  pub output-is : (take_of r store output).lent ≡ bytes at_front_of output
   pub others : (m : ℕ) → standing (take_of r store output).state store m ≡ (taken when eqb m r.head.next.0 else standing r store m)
   pub next-is : (take_of r store output).state.head.next.0 ≡ r.head.next.0 + 1
   pub highest-is : (take_of r store output).state.head.highest ≡ r.head.highest
 
 module _ (r : Receiver) (store output : List ℕ) where
-  take-is : takeSaid r (length store) (length output) ≡ (take_of r store output).says
+  take-is : take_said r (length store) (length output) ≡ (take_of r store output).says
   unfolding take_of
   take-is = refl
 
@@ -350,7 +350,7 @@ module _ (r : Receiver) (store output : List ℕ) where
       (rw k, rw k)
 
   module _ (given : List ℕ) (done : (take_of r store output).says ≡ values given) where
-    passed_on : ((take_of r store output).state ≡ passing r) × ((take_of r store output).lent ≡ heldBytes r.marks r.head.slot store r.head.next.0 atFrontOf output)
+    passed_on : ((take_of r store output).state ≡ passing r) × ((take_of r store output).lent ≡ held_bytes r.marks r.head.slot store r.head.next.0 at_front_of output)
     unfolding passing
     passed_on =
         let k = take_done r store output given (take-is ∙ done) in
@@ -369,24 +369,24 @@ module _ (r : Receiver) (store output : List ℕ) where
           (λ (e : m ≡ r.head.next.0). rw (eq-eqb m r.head.next.0 e) (is-taken (passing r) store m (omega arith)))
           (λ (n : m ≡ r.head.next.0 → ⊥).
           rw (ne_eqb m r.head.next.0 n)
-          (where-is r m
+          (where_is r m
           (λ a. is-taken (passing r) store m (omega arith) ∙ sym (is-taken r store m a))
           (λ a b. is-unseen (passing r) store m (omega (arith, n)) b ∙ sym (is-unseen r store m a b))
           (λ a b z.
-          let k = mark-other r.marks sound.table r.head.next.0 0 m (apart r.head.next.0 m r.head.next.0 a (omega (arith, f.far)) (omega arith) (omega arith) n) in
+          let k = mark_other r.marks sound.table r.head.next.0 0 m (apart r.head.next.0 m r.head.next.0 a (omega (arith, f.far)) (omega arith) (omega arith) n) in
           is-missing (passing r) store m (omega (arith, n)) b (k ∙ z) ∙ sym (is-missing r store m a b z))
           (λ a b z.
-          let k = mark-other r.marks sound.table r.head.next.0 0 m (apart r.head.next.0 m r.head.next.0 a (omega (arith, f.far)) (omega arith) (omega arith) n) in
-          let same : heldBytes (set r.marks (r.head.next.0 % 512) 0) r.head.slot store m ≡ heldBytes r.marks r.head.slot store m = rw k in
+          let k = mark_other r.marks sound.table r.head.next.0 0 m (apart r.head.next.0 m r.head.next.0 a (omega (arith, f.far)) (omega arith) (omega arith) n) in
+          let same : held_bytes (set r.marks (r.head.next.0 % 512) 0) r.head.slot store m ≡ held_bytes r.marks r.head.slot store m = rw k in
           is-held (passing r) store m (omega (arith, n)) b (λ e. z (sym k ∙ e)) ∙ ap held same ∙ sym (is-held r store m a b z))))
           (ℕ_discrete m r.head.next.0)
 
-      pub take-changes : Took r store output given
+      pub take_changes : Took r store output given
       unfolding passing
-      take-changes =
+      take_changes =
           let g = gave in
           record {
-            bytes = heldBytes r.marks r.head.slot store r.head.next.0;
+            bytes = held_bytes r.marks r.head.slot store r.head.next.0;
             was = is-held r store r.head.next.0 (omega arith) g.below (λ e. omega (arith, g.held));
             counted = let i = g.is in rw (held-length r store sound r.head.next.0) (cc);
             output-is = passed_on.1;
@@ -401,7 +401,7 @@ module _ (r : Receiver) (store output : List ℕ) where
           let g = gave in
           record {
             table = simp length-set sound.table;
-            keeps = rules-of (passing r)
+            keeps = rules_of_lem (passing r)
                 (take-keeps r sound.table (facts r store sound) g.held g.below);
             fits = sound.fits;
           }
@@ -414,13 +414,13 @@ module _ (r : Receiver) (store output : List ℕ) where
       (λ given e. rw (passed_on given e).0 (passing-sound given e sound))
 
   -- its answer: by the standing of the next number, so never 11 or 10
-  pub take-answer : Sound r store → (take_of r store output).says ≡ takeBy (standing r store r.head.next.0) (length output)
-  unfolding takeSaid
+  pub take-answer : Sound r store → (take_of r store output).says ≡ take_by (standing r store r.head.next.0) (length output)
+  unfolding take_said
   take-answer sound =
       let f = facts r store sound in
       let next = r.head.next.0 in
       sym take-is ∙ rw (sound.keeps, sound.fits)
-      (where-is r next
+      (where_is r next
       (λ a. absurd (omega arith))
       (λ a b.
       let z : mark_of r.marks next ≡ 0 = f.free (next % 512) (omega (arith, sound.table)) (omega (arith, number_is next next a (omega arith))) in
@@ -428,13 +428,13 @@ module _ (r : Receiver) (store output : List ℕ) where
       (λ a b z. rw (is-missing r store next a b z, eq-eqb _ _ z))
       (λ a b z. rw (is-held r store next a b z, ne_eqb _ _ z, held-length r store sound next)))
 
-  pub take-fair : Sound r store → (n : ℕ) → (take_of r store output).says ≡ refusal n → (n ≡ 11 → ⊥) × (n ≡ 10 → ⊥)
-  unfolding takeSaid Fair
-  take-fair sound =
+  pub take_fair : Sound r store → (n : ℕ) → (take_of r store output).says ≡ refusal n → (n ≡ 11 → ⊥) × (n ≡ 10 → ⊥)
+  unfolding take_said Fair
+  take_fair sound =
       fair (take_of r store output).says
       (subst Fair (take-is)
       (rw (sound.keeps, sound.fits)
-      (rung 17 (isFree (mark_of r.marks r.head.next.0)) _ (λ e. omega arith) (λ e. omega arith)
+      (rung 17 (is_free (mark_of r.marks r.head.next.0)) _ (λ e. omega arith) (λ e. omega arith)
       (rung 7 (ltb (length output) (length_of (mark_of r.marks r.head.next.0))) _ (λ e. omega arith) (λ e. omega arith) tt))))
 
 -- WHAT RUNS ARE COUNTED BY
@@ -442,19 +442,19 @@ module _ (r : Receiver) (store output : List ℕ) where
 -- a start's slot size, next to take and highest
 module _ (s : SeqNo) (slot : ℕ) (store : List ℕ) (done : (start_of s slot (length store)).says ≡ values []) where
   pub start-slot : (start_of s slot (length store)).state.head.slot ≡ slot
-  start-slot = ap (λ (x : Receiver). x.head.slot) (start-done s slot store done)
+  start-slot = ap (λ (x : Receiver). x.head.slot) (start_done s slot store done)
 
   pub start-next : (start_of s slot (length store)).state.head.next.0 ≡ s.0 + 1
-  start-next = ap (λ (x : Receiver). x.head.next.0) (start-done s slot store done)
+  start-next = ap (λ (x : Receiver). x.head.next.0) (start_done s slot store done)
 
   pub start-highest : (start_of s slot (length store)).state.head.highest.0 ≡ s.0
-  start-highest = ap (λ (x : Receiver). x.head.highest.0) (start-done s slot store done)
+  start-highest = ap (λ (x : Receiver). x.head.highest.0) (start_done s slot store done)
 
 -- neither accept nor take changes the slot size
-pub accept-slot : (r : Receiver) (number : SeqNo) (payload store : List ℕ) → (acceptOf r number payload store).state.head.slot ≡ r.head.slot
+pub accept-slot : (r : Receiver) (number : SeqNo) (payload store : List ℕ) → (accept_of r number payload store).state.head.slot ≡ r.head.slot
 unfolding entering
 accept-slot r number payload store =
-    by_said (acceptOf r number payload store).says
+    by_said (accept_of r number payload store).says
     (λ n e. ap (λ (x : Receiver). x.head.slot) (accept-nothing r number payload store n e).0)
     (λ given e. ap (λ (x : Receiver). x.head.slot) (became r number payload store given e).0)
 
@@ -466,9 +466,9 @@ take-slot r store output =
     (λ given e. ap (λ (x : Receiver). x.head.slot) (passed_on r store output given e).0)
 
 -- it is in range,
-pub slot-fits : (r : Receiver) (store : List ℕ) → Sound r store → slotFits r.head.slot ≡ true
-unfolding sizesFit
-slot-fits r store sound = and_left (slotFits r.head.slot) (eqb (length store) (512 * r.head.slot)) sound.fits
+pub slot-fits : (r : Receiver) (store : List ℕ) → Sound r store → slot_fits r.head.slot ≡ true
+unfolding sizes_fit
+slot-fits r store sound = and_left (slot_fits r.head.slot) (eqb (length store) (512 * r.head.slot)) sound.fits
 
 -- and it tells the store's length
 pub store_length : (r : Receiver) (store : List ℕ) → Sound r store → length store ≡ 512 * r.head.slot

@@ -8,9 +8,9 @@ use native.Mathlib.Omega.{arith}
 use borrow.Author.Tests.{lt-ltb, le-ltb, eq-eqb, ne_eqb}
 use lib.ListN.{length, get_or, take, drop, length-append, length-take, length-drop, get_or-append}
 use lib.Seq.{ext_get_or, get_or-take, get_or-drop, length-take-le, get_or-append-add, take_at, drop_at}
-use Rattle.terms.specs.Lists.{part, ◌atFrontOf◌}
+use Rattle.terms.specs.Lists.{part, ◌at_front_of◌}
 use Rattle.terms.proofs.Laws.{case}
-use Rattle.receiver_state.specs.Slots.{mark_of, offset_of, filled, heldBytes}
+use Rattle.receiver_state.specs.Slots.{mark_of, offset_of, filled, held_bytes}
 use Rattle.receiver_calls.specs.Meaning.{taken, held, missing, unseen, standing}
 use Rattle.receiver_state.specs.declared.Receiver.{Receiver}
 
@@ -29,7 +29,7 @@ module _ (r : Receiver) (store : List ℕ) (n : ℕ) where
       unfolding standing
       is-missing z = simp (le-ltb _ _ a, le-ltb _ _ b, eq-eqb _ _ z)
 
-      pub is-held : (mark_of r.marks n ≡ 0 → ⊥) → standing r store n ≡ held (heldBytes r.marks r.head.slot store n)
+      pub is-held : (mark_of r.marks n ≡ 0 → ⊥) → standing r store n ≡ held (held_bytes r.marks r.head.slot store n)
       unfolding standing
       is-held z = simp (le-ltb _ _ a, le-ltb _ _ b, ne_eqb _ _ z)
 
@@ -45,24 +45,24 @@ part_same l m from to e f =
 
 -- a list with bytes laid into it from an index on
 module _ (l : List ℕ) (at : ℕ) (bytes : List ℕ) (fits : at + length bytes ≤ length l) where
-  pub laid-length : length (take at l ++ (bytes atFrontOf drop at l)) ≡ length l
-  laid-length = simp (length-append, length-take, length-drop) (omega arith)
+  pub laid_length : length (take at l ++ (bytes at_front_of drop at l)) ≡ length l
+  laid_length = simp (length-append, length-take, length-drop) (omega arith)
 
   -- what was laid stands there
-  pub laid-here : part (take at l ++ (bytes atFrontOf drop at l)) at (at + length bytes) ≡ bytes
-  laid-here =
+  pub laid_here : part (take at l ++ (bytes at_front_of drop at l)) at (at + length bytes) ≡ bytes
+  laid_here =
       let long : length (take at l) ≡ at = length-take-le at l (omega arith) in
       let e : at + length bytes - at ≡ length bytes = omega arith in
-      rw (e, drop_at (take at l) (bytes atFrontOf drop at l) at long) (take_at bytes (drop (length bytes) (drop at l)) (length bytes) refl)
+      rw (e, drop_at (take at l) (bytes at_front_of drop at l) at long) (take_at bytes (drop (length bytes) (drop at l)) (length bytes) refl)
 
   -- and nothing else was touched
-  pub laid-before : (k : ℕ) → k < at → get_or (take at l ++ (bytes atFrontOf drop at l)) k 0 ≡ get_or l k 0
-  laid-before k h =
-      get_or-append (take at l) (bytes atFrontOf drop at l) 0 k (omega (arith, length-take-le at l (omega arith)))
+  pub laid_before : (k : ℕ) → k < at → get_or (take at l ++ (bytes at_front_of drop at l)) k 0 ≡ get_or l k 0
+  laid_before k h =
+      get_or-append (take at l) (bytes at_front_of drop at l) 0 k (omega (arith, length-take-le at l (omega arith)))
       ∙ get_or-take at l k 0 h
 
-  pub laid-after : (k : ℕ) → at + length bytes ≤ k → get_or (take at l ++ (bytes atFrontOf drop at l)) k 0 ≡ get_or l k 0
-  laid-after k h =
+  pub laid_after : (k : ℕ) → at + length bytes ≤ k → get_or (take at l ++ (bytes at_front_of drop at l)) k 0 ≡ get_or l k 0
+  laid_after k h =
       let front = take at l in
       let back = drop (length bytes) (drop at l) in
       let j = k - (at + length bytes) in
@@ -78,21 +78,21 @@ module _ (l : List ℕ) (at : ℕ) (bytes : List ℕ) (fits : at + length bytes 
 
 module _ (store : List ℕ) (slot number : ℕ) (payload : List ℕ) (fits : offset_of slot number + length payload ≤ length store) where
   pub filled-length : length (filled store slot number payload) ≡ length store
-  filled-length = laid-length store (offset_of slot number) payload fits
+  filled-length = laid_length store (offset_of slot number) payload fits
 
   -- what was stored stands at the front of its slot
-  pub filled-here : part (filled store slot number payload) (offset_of slot number) (offset_of slot number + length payload) ≡ payload
-  filled-here = laid-here store (offset_of slot number) payload fits
+  pub filled_here : part (filled store slot number payload) (offset_of slot number) (offset_of slot number + length payload) ≡ payload
+  filled_here = laid_here store (offset_of slot number) payload fits
 
   -- every other slot is as it was
-  pub filled-other : (m size : ℕ) → size ≤ slot → length payload ≤ slot → (m % 512 ≡ number % 512 → ⊥)
+  pub filled_other : (m size : ℕ) → size ≤ slot → length payload ≤ slot → (m % 512 ≡ number % 512 → ⊥)
       → part (filled store slot number payload) (offset_of slot m) (offset_of slot m + size) ≡ part store (offset_of slot m) (offset_of slot m + size)
-  filled-other m size short small apart =
+  filled_other m size short small apart =
       part_same (filled store slot number payload) store (offset_of slot m) (offset_of slot m + size) filled-length
       (λ k a b.
       case
-      (λ (q : m % 512 < number % 512). laid-before store (offset_of slot number) payload fits k (omega (arith, mul-le-mul_right slot q)))
+      (λ (q : m % 512 < number % 512). laid_before store (offset_of slot number) payload fits k (omega (arith, mul-le-mul_right slot q)))
       (λ (q : m % 512 < number % 512 → ⊥).
       let q' : number % 512 + 1 ≤ m % 512 = omega (arith, apart) in
-      laid-after store (offset_of slot number) payload fits k (omega (arith, mul-le-mul_right slot q')))
+      laid_after store (offset_of slot number) payload fits k (omega (arith, mul-le-mul_right slot q')))
       (dec_lt (m % 512) (number % 512)))

@@ -2,22 +2,22 @@
 use Rattle.std.specs.Prelude.{ℕ, ◌+◌, ◌-◌, ◌%◌, max, not, List, [], leb, ltb, eqb, length, set}
 use Rattle.terms.specs.declared.SeqNo.{SeqNo}
 use Rattle.terms.specs.Ladder.{◌when◌else◌}
-use Rattle.terms.specs.Answers.{Said, refusal, values, ◌unlessRefused◌else◌, said}
+use Rattle.terms.specs.Answers.{Said, refusal, values, ◌unless_refused◌else◌, said}
 use Rattle.receiver_state.specs.Answers.{◌over◌, Outcome}
 use Rattle.receiver_state.specs.Slots.{is_held, mark_of, filled}
-use Rattle.receiver_state.specs.Rules.{rulesOf, sizesFit}
+use Rattle.receiver_state.specs.Rules.{rules_of, sizes_fit}
 use Rattle.receiver_state.specs.declared.Head.{Head}
 use Rattle.receiver_state.specs.declared.Receiver.{Receiver}
 use Rattle.receiver_calls.specs.declared.Accepted.{Accepted}
 use Rattle.receiver_calls.specs.declared.AcceptedIn.{AcceptedIn}
 
 -- the answer, by document 01's numbers in its order
-unfoldable pub acceptSaid : Receiver → SeqNo → ℕ → ℕ → Said
-acceptSaid r number size storeLength =
+unfoldable pub accept_said : Receiver → SeqNo → ℕ → ℕ → Said
+accept_said r number size store_length =
     -- state breaks the rules
-    refusal 11 when not (rulesOf r) else
+    refusal 11 when not (rules_of r) else
     -- slot size or store length wrong
-    refusal 10 when not (sizesFit r.head.slot storeLength) else
+    refusal 10 when not (sizes_fit r.head.slot store_length) else
     -- number is 4,294,967,295
     refusal 12 when eqb number.0 4294967295 else
     -- number below the next to take
@@ -39,18 +39,18 @@ unfoldable pub entering : Receiver → SeqNo → ℕ → Receiver
 entering r number size = holding r.head number over set r.marks (number.0 % 512) (size + 1)
 
 -- the whole outcome; where it is done, the payload stands at the slot's front
-unfoldable pub acceptOf : Receiver → SeqNo → List ℕ → List ℕ → Outcome
-acceptOf r number payload store =
-    let answer = acceptSaid r number (length payload) (length store) in
+unfoldable pub accept_of : Receiver → SeqNo → List ℕ → List ℕ → Outcome
+accept_of r number payload store =
+    let answer = accept_said r number (length payload) (length store) in
     record {
       says = answer;
-      state = entering r number (length payload) unlessRefused answer else r;
-      lent = filled store r.head.slot number.0 payload unlessRefused answer else store;
+      state = entering r number (length payload) unless_refused answer else r;
+      lent = filled store r.head.slot number.0 payload unless_refused answer else store;
     }
 
 -- results of the code, as an outcome: by value, and over a table that is lent
 abbrev pub accepted : Accepted → List ℕ → Outcome
 accepted a store = record { says = said a.answer; state = a.state; lent = store }
 
-abbrev pub acceptedOver : AcceptedIn → List ℕ → List ℕ → Outcome
-acceptedOver a marks store = record { says = said a.answer; state = a.head over marks; lent = store }
+abbrev pub accepted_over : AcceptedIn → List ℕ → List ℕ → Outcome
+accepted_over a marks store = record { says = said a.answer; state = a.head over marks; lent = store }

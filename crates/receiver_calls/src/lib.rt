@@ -3,8 +3,8 @@
 ghost use Rattle.std.specs.Prelude.{◌≡◌, ◌<◌, max, length};
 ghost use Rattle.terms.specs.Answers.{said, said_of};
 ghost use Rattle.receiver_state.specs.Answers.{◌over◌};
-ghost use Rattle.receiver_calls.specs.Accept.{acceptSaid, holding, acceptOf, accepted, acceptedOver};
-ghost use Rattle.receiver_calls.specs.Take.{takeSaid, releasing, take_of, took, tookOver};
+ghost use Rattle.receiver_calls.specs.Accept.{accept_said, holding, accept_of, accepted, accepted_over};
+ghost use Rattle.receiver_calls.specs.Take.{take_said, releasing, take_of, took, took_over};
 
 use receiver_state::{Head, Receiver};
 use terms::{Answer, Given, Refusal, SeqNo};
@@ -25,7 +25,7 @@ pub struct Taken {
 // What accept answers: the first refusal that applies, in document 01's order, or that it is done.
 fn judge_accept(h: Head, marks: &[u16], number: SeqNo, size: usize, store_length: usize) -> Answer
     requires { length marks.now ≡ 512 }
-    ensures { said result ≡ acceptSaid (h over (λ x. x.now) marks.entry) number size store_length }
+    ensures { said result ≡ accept_said (h over (λ x. x.now) marks.entry) number size store_length }
 {
     let n = number.0;
     let next = h.next.0;
@@ -88,8 +88,8 @@ pub fn accept_in(
     store: &mut [u8],
 ) -> AcceptedIn
     requires { length marks.old ≡ 512 }
-    ensures { acceptedOver result marks.new store.new
-        ≡ acceptOf (h over (λ x. x.now) marks.entry) number payload.now store.old }
+    ensures { accepted_over result marks.new store.new
+        ≡ accept_of (h over (λ x. x.now) marks.entry) number payload.now store.old }
 {
     let answer = judge_accept(h, &*marks, number, payload.len(), store.len());
     match answer {
@@ -116,7 +116,7 @@ pub fn accept_in(
 // Accepts a packet's payload under its number. Ports `InboundContext::handle_packet`, mended: an empty payload is held like any
 // other, and a repeat changes nothing.
 pub fn accept(r: Receiver, number: SeqNo, payload: &[u8], store: &mut [u8]) -> Accepted
-    ensures { accepted result store.new ≡ acceptOf r number payload.now store.old }
+    ensures { accepted result store.new ≡ accept_of r number payload.now store.old }
 {
     let mut s = r;
     let h = s.head;
@@ -133,7 +133,7 @@ pub fn accept(r: Receiver, number: SeqNo, payload: &[u8], store: &mut [u8]) -> A
 // What take answers: the first refusal that applies, in document 01's order, or how many bytes it copies.
 fn judge_take(h: Head, marks: &[u16], store_length: usize, room: usize) -> Given
     requires { length marks.now ≡ 512 }
-    ensures { said_of result ≡ takeSaid (h over (λ x. x.now) marks.entry) store_length room }
+    ensures { said_of result ≡ take_said (h over (λ x. x.now) marks.entry) store_length room }
 {
     let next = h.next.0;
     let slot = h.slot;
@@ -176,7 +176,7 @@ pub struct TakenIn {
 // take, over the state's head and its table lent: the one body behind the call by value and the one in place.
 pub fn take_in(h: Head, marks: &mut [u16; 512], store: &[u8], output: &mut [u8]) -> TakenIn
     requires { length marks.old ≡ 512 }
-    ensures { tookOver result marks.new output.new
+    ensures { took_over result marks.new output.new
         ≡ take_of (h over (λ x. x.now) marks.entry) store.now output.old }
 {
     let answer = judge_take(h, &*marks, store.len(), output.len());

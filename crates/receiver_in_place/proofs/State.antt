@@ -28,19 +28,19 @@ use Rattle.receiver_state.proofs.Receiver.TheLaws as T'
 abbrev pub vals : Receiver → List Val
 vals = LL.vals T.the_type T'.the_laws
 
-abbrev pub head-vals : Head → List Val
-head-vals = LL.vals Hd.the_type Hd'.the_laws
+abbrev pub head_vals : Head → List Val
+head_vals = LL.vals Hd.the_type Hd'.the_laws
 
 abbrev pub Marks : RattleType
 Marks = Array u16 512
 
 -- what whoever holds a state knows of its fields
 module _ (h : Receiver) (g : Is T.the_row h (vals h)) where
-  pub head-is : Is Hd.the_row h.head (head-vals h.head)
+  pub head-is : Is Hd.the_row h.head (head_vals h.head)
   head-is = (LL.owed T.the_type T'.the_laws h _ g).0
 
-  pub marks-whole : length h.marks ≡ 512
-  marks-whole = subst (λ (ms : List ℕ). length ms ≡ 512) (map-id h.marks) (LL.owed T.the_type T'.the_laws h _ g).1.0.1.0.1
+  pub marks_whole : length h.marks ≡ 512
+  marks_whole = subst (λ (ms : List ℕ). length ms ≡ 512) (map-id h.marks) (LL.owed T.the_type T'.the_laws h _ g).1.0.1.0.1
 
 -- a state with other marks
 abbrev pub marked : Receiver → List ℕ → Receiver
@@ -48,9 +48,9 @@ marked h ms = h.head over ms
 
 module _ {M : Type 1} {𝓤 : Ura M} (𝓛 : Logic 𝓤) where
   -- the way back, from marks to the state that has them
-  abbrev pub State-Cut : Receiver → ℕ → ℕ → SProp 𝓤
-  State-Cut h b o = wand 𝓤 (sem 𝓛 (part_at Marks full_share h.marks b (o + 16))) (sem 𝓛 (part_at T.the_row full_share h b o))
+  abbrev pub StateCut : Receiver → ℕ → ℕ → SProp 𝓤
+  StateCut h b o = wand 𝓤 (sem 𝓛 (part_at Marks full_share h.marks b (o + 16))) (sem 𝓛 (part_at T.the_row full_share h b o))
 
-  pub state-cut : (h : Receiver) (ms : List ℕ) (b o : ℕ) → ent 𝓤 (sem 𝓛 (part_at T.the_row full_share h b o)) (sep 𝓤 (sem 𝓛 (part_at Marks full_share h.marks b (o + 16))) (State-Cut (marked h ms) b o))
-  state-cut h ms b o = Cut-Array 𝓛 full_share T.the_row u16 512 16 h (marked h ms) h.marks ms (b, o)
+  pub state_cut : (h : Receiver) (ms : List ℕ) (b o : ℕ) → ent 𝓤 (sem 𝓛 (part_at T.the_row full_share h b o)) (sep 𝓤 (sem 𝓛 (part_at Marks full_share h.marks b (o + 16))) (StateCut (marked h ms) b o))
+  state_cut h ms b o = Cut-Array 𝓛 full_share T.the_row u16 512 16 h (marked h ms) h.marks ms (b, o)
       (put_at 𝓛 full_share T.the_type T'.the_laws 1 16 refl refl (b, o) h (marked h ms) ((T.struct).as_values h) ms refl refl)

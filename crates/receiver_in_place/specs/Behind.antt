@@ -6,8 +6,8 @@ use Rattle.terms.specs.declared.Answer.{Answer}
 use Rattle.terms.specs.declared.Given.{Given}
 use Rattle.receiver_state.specs.declared.Receiver.{Receiver}
 
-abbrev pub acceptedBehind : Answer → Receiver → List ℕ → Outcome
-acceptedBehind answer state store = record { says = said answer; state = state; lent = store }
+abbrev pub accepted_behind : Answer → Receiver → List ℕ → Outcome
+accepted_behind answer state store = record { says = said answer; state = state; lent = store }
 
-abbrev pub tookBehind : Given → Receiver → List ℕ → Outcome
-tookBehind answer state output = record { says = said_of answer; state = state; lent = output }
+abbrev pub took_behind : Given → Receiver → List ℕ → Outcome
+took_behind answer state output = record { says = said_of answer; state = state; lent = output }

@@ -3,16 +3,16 @@
 // There are two forms with one promise: `accept` and `take` stand over the calls by value, and copy the state out and in; `accept_lent`
 // and `take_lent`, for hosts, lend the state's table to the body that the calls by value use, and copy nothing of it.
 ghost use Rattle.std.specs.Prelude.{◌≡◌};
-ghost use Rattle.receiver_calls.specs.Accept.{acceptOf};
+ghost use Rattle.receiver_calls.specs.Accept.{accept_of};
 ghost use Rattle.receiver_calls.specs.Take.{take_of};
-ghost use Rattle.receiver_in_place.specs.Behind.{acceptedBehind, tookBehind};
+ghost use Rattle.receiver_in_place.specs.Behind.{accepted_behind, took_behind};
 
 use receiver_state::Receiver;
 use terms::{Answer, Given, SeqNo};
 
 // Accepts a packet's payload under its number, over `receiver_calls::accept`.
 pub fn accept(r: &mut Receiver, number: SeqNo, payload: &[u8], store: &mut [u8]) -> Answer
-    ensures { acceptedBehind result r.new store.new ≡ acceptOf r.old number payload.now store.old }
+    ensures { accepted_behind result r.new store.new ≡ accept_of r.old number payload.now store.old }
 {
     let accepted = receiver_calls::accept(*r, number, payload, store);
     *r = accepted.state;
@@ -21,7 +21,7 @@ pub fn accept(r: &mut Receiver, number: SeqNo, payload: &[u8], store: &mut [u8])
 
 // The same, over `receiver_calls::accept_in`, which is lent the table where it lies.
 pub fn accept_lent(r: &mut Receiver, number: SeqNo, payload: &[u8], store: &mut [u8]) -> Answer
-    ensures { acceptedBehind result r.new store.new ≡ acceptOf r.old number payload.now store.old }
+    ensures { accepted_behind result r.new store.new ≡ accept_of r.old number payload.now store.old }
 {
     let h = r.head;
     let entered = receiver_calls::accept_in(h, &mut r.marks, number, payload, store);
@@ -31,7 +31,7 @@ pub fn accept_lent(r: &mut Receiver, number: SeqNo, payload: &[u8], store: &mut 
 
 // Takes the next payload, if it is held, over `receiver_calls::take`.
 pub fn take(r: &mut Receiver, store: &[u8], output: &mut [u8]) -> Given
-    ensures { tookBehind result r.new output.new ≡ take_of r.old store.now output.old }
+    ensures { took_behind result r.new output.new ≡ take_of r.old store.now output.old }
 {
     let taken = receiver_calls::take(*r, store, output);
     *r = taken.state;
@@ -40,7 +40,7 @@ pub fn take(r: &mut Receiver, store: &[u8], output: &mut [u8]) -> Given
 
 // The same, over `receiver_calls::take_in`, which is lent the table where it lies.
 pub fn take_lent(r: &mut Receiver, store: &[u8], output: &mut [u8]) -> Given
-    ensures { tookBehind result r.new output.new ≡ take_of r.old store.now output.old }
+    ensures { took_behind result r.new output.new ≡ take_of r.old store.now output.old }
 {
     let h = r.head;
     let passed = receiver_calls::take_in(h, &mut r.marks, store, output);

@@ -13,19 +13,19 @@ use lib.Dec.{ltb}
 use lib.ListN.{length}
 use Rattle.terms.specs.declared.StreamId.{StreamId}
 use Rattle.terms.proofs.Laws.{case, and_left, and_right}
-use Rattle.wire.specs.BigEndian.{numbersAt}
-use Rattle.packet_read.specs.Reading.{nackCount}
-use Rattle.packet_read.proofs.Looks.{nack-numbers}
+use Rattle.wire.specs.BigEndian.{numbers_at}
+use Rattle.packet_read.specs.Reading.{nack_count}
+use Rattle.packet_read.proofs.Looks.{nack_numbers}
 use Rattle.receiver_calls.specs.Meaning.{standing}
 use Rattle.receiver_calls.proofs.Laws.{slot-fits}
-use Rattle.receiver_ack.specs.Missing.{isAmong, isReceived}
-use Rattle.receiver_ack.specs.Acknowledge.{plainAckOf}
-use Rattle.receiver_ack.proofs.Carried.{absence-claims}
-use Rattle.receiver_ack.proofs.PlainAck.{ReadsAs, acknowledge-reads, acknowledge-written, acknowledge-enough, at-most-1044}
+use Rattle.receiver_ack.specs.Missing.{is_among, is_received}
+use Rattle.receiver_ack.specs.Acknowledge.{plain_ack_of}
+use Rattle.receiver_ack.proofs.Carried.{absence_claims}
+use Rattle.receiver_ack.proofs.PlainAck.{ReadsAs, acknowledge-reads, acknowledge-written, acknowledge_enough, at_most_1044}
 use Rattle.receiver_runs.specs.Runs.{Run, end_of}
-use Rattle.receiver_runs.specs.Delivered.{Taken, Held, throughIn, nacksIn, ackOf, ackPacket, Honest, NothingHidden}
+use Rattle.receiver_runs.specs.Delivered.{Taken, Held, through_in, nacks_in, ack_of, ack_packet, Honest, NothingHidden}
 use Rattle.receiver_runs.proofs.Pieces.{by_first}
-use Rattle.receiver_runs.proofs.Places.{next_of, highestIn, first, known, taken-below, accepted-held}
+use Rattle.receiver_runs.proofs.Places.{next_of, highest_in, first, known, taken-below, accepted-held}
 
 -- what is neither taken nor held does not count as received
 not_so : {C : Type 0} → false ≡ true → C
@@ -33,7 +33,7 @@ not_so e = let z : ◌≡◌ {A = ℕ} 0 1 = cc in absurd (omega arith)
 
 module _ (run : Run) where
   -- what counts as received is at most s, taken or held,
-  received_is : (n : ℕ) → isReceived (standing (end_of run).state (end_of run).store n) ≡ true → (n ≤ run.s.0) ⊎ (Taken run n ⊎ Held run n)
+  received_is : (n : ℕ) → is_received (standing (end_of run).state (end_of run).store n) ≡ true → (n ≤ run.s.0) ⊎ (Taken run n ⊎ Held run n)
   received_is n e =
       case inl
       (λ (low : n ≤ run.s.0 → ⊥).
@@ -44,33 +44,33 @@ module _ (run : Run) where
       (λ q.
       let told = rw ((known run).stands n, le-ltb n (next_of run) (omega arith), q) at e in
       case
-      (λ (b : n ≤ highestIn run). not_so (rw (le-leb n (highestIn run) b) at told))
-      (λ (b : n ≤ highestIn run → ⊥). not_so (rw (lt-leb n (highestIn run) (omega arith)) at told))
-      (dec_le n (highestIn run)))
+      (λ (b : n ≤ highest_in run). not_so (rw (le-leb n (highest_in run) b) at told))
+      (λ (b : n ≤ highest_in run → ⊥). not_so (rw (lt-leb n (highest_in run) (omega arith)) at told))
+      (dec_le n (highest_in run)))
       (λ bytes q. inr (inr (bytes, accepted-held run n bytes (omega arith) q))))
       (dec_lt n (next_of run)))
       (dec_le n run.s.0)
 
   -- and the other way round
-  is-received : (n : ℕ) → (n ≤ run.s.0) ⊎ (Taken run n ⊎ Held run n) → isReceived (standing (end_of run).state (end_of run).store n) ≡ true
+  is-received : (n : ℕ) → (n ≤ run.s.0) ⊎ (Taken run n ⊎ Held run n) → is_received (standing (end_of run).state (end_of run).store n) ≡ true
   is-received n =
-      let below : n < next_of run → isReceived (standing (end_of run).state (end_of run).store n) ≡ true = λ a. rw ((known run).stands n, lt-ltb n (next_of run) a) in
+      let below : n < next_of run → is_received (standing (end_of run).state (end_of run).store n) ≡ true = λ a. rw ((known run).stands n, lt-ltb n (next_of run) a) in
       ⊎_elim (λ low. below (omega (arith, (known run).next-is))) (⊎_elim (λ t. below (taken-below run n t)) (λ h. rw h.1))
 
   -- a packet that reads as the acknowledgement of the run's end
   module _ (send recv : StreamId) (packet : List ℕ) (reads : ReadsAs (end_of run).state send recv packet) where
     -- its NACKs are where our reader finds them
-    nacks-are : nacksIn packet ≡ numbersAt 4 (nackCount packet) 17 packet
-    nacks-are = nack-numbers packet _ reads.fields_read
+    nacks_are : nacks_in packet ≡ numbers_at 4 (nack_count packet) 17 packet
+    nacks_are = nack_numbers packet _ reads.fields_read_back
 
-    absent : (n : ℕ) → n ≤ throughIn packet → not (isAmong n (nacksIn packet)) ≡ isReceived (standing (end_of run).state (end_of run).store n)
-    absent n up = rw nacks-are (absence-claims (end_of run).state send recv packet reads (end_of run).store n up)
+    absent : (n : ℕ) → n ≤ through_in packet → not (is_among n (nacks_in packet)) ≡ is_received (standing (end_of run).state (end_of run).store n)
+    absent n up = rw nacks_are (absence_claims (end_of run).state send recv packet reads (end_of run).store n up)
 
     honest : Honest run packet
     honest = record {
-      readable = rw reads.fields_read;
-      absent-is = λ n up.
-          (λ e. received_is n (sym (absent n up) ∙ ap not e), λ h. not-true (isAmong n (nacksIn packet)) (absent n up ∙ is-received n h));
+      readable = rw reads.fields_read_back;
+      absent_is = λ n up.
+          (λ e. received_is n (sym (absent n up) ∙ ap not e), λ h. not-true (is_among n (nacks_in packet)) (absent n up ∙ is-received n h));
     }
 
   -- 3. a number up to an acknowledgement's ack-through is absent from its NACKs exactly if it is at most s, taken or held, and 1,044 bytes
@@ -78,15 +78,15 @@ module _ (run : Run) where
   pub nothing_hidden : NothingHidden run
   nothing_hidden = record {
     honest = λ send recv output size wide done.
-        honest send recv (ackPacket (ackOf run send recv output) size)
+        honest send recv (ack_packet (ack_of run send recv output) size)
         (rw (sub-zero size)
         (acknowledge-reads (end_of run).state send recv output size done
         (ltb-true send.0 (2 ^ 32) (and_left (ltb send.0 (2 ^ 32)) (ltb recv.0 (2 ^ 32)) wide))
         (ltb-true recv.0 (2 ^ 32) (and_right (ltb send.0 (2 ^ 32)) (ltb recv.0 (2 ^ 32)) wide))));
-    at-most-1044 = λ send recv output size done.
-        omega (arith, (acknowledge-written (end_of run).state send recv output size done).long, at-most-1044 (end_of run).state send recv);
-    always-fits = λ send recv output room. (
-      length (plainAckOf (end_of run).state send recv),
-      acknowledge-enough (end_of run).state send recv output (known run).sound.keeps (slot-fits (end_of run).state (end_of run).store (known run).sound) room,
+    at_most_1044 = λ send recv output size done.
+        omega (arith, (acknowledge-written (end_of run).state send recv output size done).long, at_most_1044 (end_of run).state send recv);
+    always_fits = λ send recv output room. (
+      length (plain_ack_of (end_of run).state send recv),
+      acknowledge_enough (end_of run).state send recv output (known run).sound.keeps (slot-fits (end_of run).state (end_of run).store (known run).sound) room,
     );
   }

@@ -3,13 +3,13 @@
 -- hold it; and no call is refused 11 or 10. Each part has its own reason (Places, Claims). Assumes nothing.
 use Rattle.receiver_runs.specs.Runs.{Run}
 use Rattle.receiver_runs.specs.Delivered.{Delivered}
-use Rattle.receiver_runs.proofs.Places.{nothing-lost, in_order, never-at-fault}
+use Rattle.receiver_runs.proofs.Places.{nothing_lost, in_order, never_at_fault}
 use Rattle.receiver_runs.proofs.Claims.{nothing_hidden}
 
 pub delivered : (run : Run) → Delivered run
 delivered run = record {
-  nothing-lost = nothing-lost run;
+  nothing_lost = nothing_lost run;
   in_order = in_order run;
   nothing_hidden = nothing_hidden run;
-  never-at-fault = never-at-fault run;
+  never_at_fault = never_at_fault run;
 }

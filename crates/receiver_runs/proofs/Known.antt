@@ -17,19 +17,19 @@ use Rattle.terms.proofs.Laws.{case}
 use Rattle.receiver_calls.specs.Meaning.{Standing, taken, held, missing, unseen, standing, Sound}
 use Rattle.terms.specs.declared.SeqNo.{SeqNo}
 use Rattle.receiver_state.specs.declared.Receiver.{Receiver}
-use Rattle.receiver_calls.proofs.Laws.{above-unseen}
-use Rattle.receiver_runs.specs.History.{Piece, first_of, highestOf}
-use Rattle.receiver_runs.proofs.Pieces.{by_first, first-stays, first-other, first-own, highest-more, at_place}
+use Rattle.receiver_calls.proofs.Laws.{above_unseen}
+use Rattle.receiver_runs.specs.History.{Piece, first_of, highest_of}
+use Rattle.receiver_runs.proofs.Pieces.{by_first, first_stays, first_other, first_own, highest_more, at_place}
 
-abbrev heldOr : Option (List ℕ) → Standing → Standing
-heldOr (some bytes) other = held bytes
-heldOr none other = other
+abbrev held_or : Option (List ℕ) → Standing → Standing
+held_or (some bytes) other = held bytes
+held_or none other = other
 
 -- the standing of a number, from the next to take, the highest accepted and the number's first accepted packet
 abbrev pub told : ℕ → ℕ → Option (List ℕ) → ℕ → Standing
 told next highest first n =
     taken when ltb n next else
-    heldOr first (missing when leb n highest else unseen)
+    held_or first (missing when leb n highest else unseen)
 
 module _ (next highest n : ℕ) (first : Option (List ℕ)) where
   -- what is held has that first packet
@@ -48,8 +48,8 @@ module _ (next highest n : ℕ) (first : Option (List ℕ)) where
       (dec_lt n next)
 
   -- what is missing or unseen has none
-  pub told-open : (told next highest first n ≡ missing) ⊎ (told next highest first n ≡ unseen) → (next ≤ n) × (first ≡ none)
-  told-open e =
+  pub told_open : (told next highest first n ≡ missing) ⊎ (told next highest first n ≡ unseen) → (next ≤ n) × (first ≡ none)
+  told_open e =
       case
       (λ (a : n < next).
       ⊎_elim
@@ -70,7 +70,7 @@ pub record Known (s slot : ℕ) (r : Receiver) (store : List ℕ) (accepted took
   pub slot_is : r.head.slot ≡ slot
   pub start_is : r.head.start.0 ≡ s
   pub next-is : r.head.next.0 ≡ s + 1 + length took
-  pub highest-is : r.head.highest.0 ≡ highestOf s accepted
+  pub highest-is : r.head.highest.0 ≡ highest_of s accepted
   pub stands : (n : ℕ) → standing r store n ≡ told r.head.next.0 r.head.highest.0 (first_of n accepted) n
   pub above : (n : ℕ) (bytes : List ℕ) → first_of n accepted ≡ some bytes → s < n
   -- from s + 1 up to the next to take, each number was taken with the bytes of its first packet, and no other number was
@@ -83,20 +83,20 @@ module _ (s slot : ℕ) (r r' : Receiver) (store store' : List ℕ) (accepted to
     (sound : Sound r' store') (same-slot : r'.head.slot ≡ r.head.slot) (same_start : r'.head.start ≡ r.head.start) where
   -- a packet comes in: its number, missing or unseen until now, is held with its payload, and the numbers that it leapt over are missing
   module _ (number : ℕ) (payload : List ℕ) (was : (standing r store number ≡ missing) ⊎ (standing r store number ≡ unseen))
-      (now-held : standing r' store' number ≡ held payload)
+      (now_held : standing r' store' number ≡ held payload)
       (others : (m : ℕ) → (m ≡ number → ⊥) → standing r' store' m ≡ (missing when ltb r.head.highest.0 m && ltb m number else standing r store m))
       (next-is : r'.head.next.0 ≡ r.head.next.0) (highest-is : r'.head.highest.0 ≡ max r.head.highest.0 number) where
     -- no packet of that number came before
     is-first : (r.head.next.0 ≤ number) × (first_of number accepted ≡ none)
-    is-first = told-open r.head.next.0 r.head.highest.0 number (first_of number accepted) (rw (known.stands number) at was)
+    is-first = told_open r.head.next.0 r.head.highest.0 number (first_of number accepted) (rw (known.stands number) at was)
 
-    stands-other : (n : ℕ) → (n ≡ number → ⊥)
+    stands_other : (n : ℕ) → (n ≡ number → ⊥)
         → (missing when ltb r.head.highest.0 n && ltb n number else standing r store n) ≡ told r.head.next.0 (max r.head.highest.0 number) (first_of n accepted) n
-    stands-other n other =
+    stands_other n other =
         case
         (λ (a : r.head.highest.0 < n).
-        let un = above-unseen r store n known.sound a in
-        let o = told-open r.head.next.0 r.head.highest.0 n (first_of n accepted) (inr (sym (known.stands n) ∙ un)) in
+        let un = above_unseen r store n known.sound a in
+        let o = told_open r.head.next.0 r.head.highest.0 n (first_of n accepted) (inr (sym (known.stands n) ∙ un)) in
         rw (lt-ltb _ _ a, le-ltb n r.head.next.0 o.0, o.1)
         (case
         (λ (b : n < number). rw (lt-ltb _ _ b, le-leb n (max r.head.highest.0 number) (omega arith)))
@@ -114,26 +114,26 @@ module _ (s slot : ℕ) (r r' : Receiver) (store store' : List ℕ) (accepted to
           slot_is = same-slot ∙ known.slot_is;
           start_is = ap (λ (x : SeqNo). x.0) same_start ∙ known.start_is;
           next-is = next-is ∙ known.next-is;
-          highest-is = omega (arith, highest-more s accepted p, highest-is, known.highest-is);
+          highest-is = omega (arith, highest_more s accepted p, highest-is, known.highest-is);
           stands = λ n.
               case
               (λ (e : n ≡ number).
-              rw (e, now-held, first-own number accepted p refl is-first.1, next-is, le-ltb number r.head.next.0 is-first.0))
+              rw (e, now_held, first_own number accepted p refl is-first.1, next-is, le-ltb number r.head.next.0 is-first.0))
               (λ (other : n ≡ number → ⊥).
-              rw (others n other, first-other n accepted p (λ e. other (sym e)), next-is, highest-is) (stands-other n other))
+              rw (others n other, first_other n accepted p (λ e. other (sym e)), next-is, highest-is) (stands_other n other))
               (ℕ_discrete n number);
           above = λ n bytes e.
               case
               (λ (q : n ≡ number). omega (arith, is-first.0, known.next-is))
-              (λ (other : n ≡ number → ⊥). known.above n bytes (sym (first-other n accepted p (λ q. other (sym q))) ∙ e))
+              (λ (other : n ≡ number → ⊥). known.above n bytes (sym (first_other n accepted p (λ q. other (sym q))) ∙ e))
               (ℕ_discrete n number);
           taken-all = λ n a b.
               let t = known.taken-all n a (omega arith) in
-              (t.0, t.1, first-stays n accepted (p ∷ []) t.0 t.2);
+              (t.0, t.1, first_stays n accepted (p ∷ []) t.0 t.2);
           taken-only = λ n bytes e. rw next-is (known.taken-only n bytes e);
           ordered = λ k piece e.
               let t = known.ordered k piece e in
-              (t.0, first-stays piece.number accepted (p ∷ []) piece.bytes t.1);
+              (t.0, first_stays piece.number accepted (p ∷ []) piece.bytes t.1);
         }
 
   -- a take: the next number was held, and counts as taken from now on
@@ -170,16 +170,16 @@ module _ (s slot : ℕ) (r r' : Receiver) (store store' : List ℕ) (accepted to
           above = known.above;
           taken-all = λ n a b.
               case
-              (λ (e : n ≡ r.head.next.0). (bytes, rw e (first-own r.head.next.0 took p refl not_yet), rw e had))
+              (λ (e : n ≡ r.head.next.0). (bytes, rw e (first_own r.head.next.0 took p refl not_yet), rw e had))
               (λ (other : n ≡ r.head.next.0 → ⊥).
               let t = known.taken-all n a (omega (arith, other)) in
-              (t.0, first-stays n took (p ∷ []) t.0 t.1, t.2))
+              (t.0, first_stays n took (p ∷ []) t.0 t.1, t.2))
               (ℕ_discrete n r.head.next.0);
           taken-only = λ n x e.
               case
               (λ (q : n ≡ r.head.next.0). (omega (arith, known.next-is), omega arith))
               (λ (other : n ≡ r.head.next.0 → ⊥).
-              let t = known.taken-only n x (sym (first-other n took p (λ q. other (sym q))) ∙ e) in
+              let t = known.taken-only n x (sym (first_other n took p (λ q. other (sym q))) ∙ e) in
               (t.0, omega arith))
               (ℕ_discrete n r.head.next.0);
           ordered = λ k piece e.

@@ -11,48 +11,48 @@ use borrow.Author.Tests.{le-ltb, le-leb, ltb-true}
 use lib.Dec.{ltb}
 use Rattle.terms.proofs.Laws.{case, and_left, and_right}
 use Rattle.receiver_calls.proofs.Laws.{missing-told, told-missing, store_length}
-use Rattle.receiver_runs.specs.Runs.{Run, historyOf, end_of, allInWidth, begun}
-use Rattle.receiver_runs.specs.History.{acceptedIn, takenIn, first_of}
-use Rattle.receiver_runs.specs.Delivered.{AcceptedWith, NeverAccepted, Taken, Held, HeldWith, Missing, highestAccepted, ExactlyOne, the-first, the_second, the-third}
+use Rattle.receiver_runs.specs.Runs.{Run, history_of, end_of, all_in_width, begun}
+use Rattle.receiver_runs.specs.History.{accepted_in, taken_in, first_of}
+use Rattle.receiver_runs.specs.Delivered.{AcceptedWith, NeverAccepted, Taken, Held, HeldWith, Missing, highest_accepted, ExactlyOne, the-first, the_second, the_third}
 use Rattle.receiver_runs.specs.Delivered.{NothingLost, InOrder, NeverAtFault}
-use Rattle.receiver_runs.proofs.Pieces.{by_first, some-not-none, under-highest}
-use Rattle.receiver_runs.proofs.Known.{Known, told-held, told-open}
+use Rattle.receiver_runs.proofs.Pieces.{by_first, some_not_none, under_highest}
+use Rattle.receiver_runs.proofs.Known.{Known, told-held, told_open}
 use Rattle.receiver_runs.proofs.Steps.{At, start, steps}
 
 abbrev pub next_of : Run → ℕ
 next_of run = (end_of run).state.head.next.0
 
-abbrev pub highestIn : Run → ℕ
-highestIn run = (end_of run).state.head.highest.0
+abbrev pub highest_in : Run → ℕ
+highest_in run = (end_of run).state.head.highest.0
 
 abbrev pub first : Run → ℕ → Option (List ℕ)
-first run n = first_of n (acceptedIn (historyOf run))
+first run n = first_of n (accepted_in (history_of run))
 
 module _ (run : Run) where
   -- what is known at the start,
-  at-start : At run.s.0 run.slot (begun run.s run.slot run.store) []
-  at-start =
+  at_start : At run.s.0 run.slot (begun run.s run.slot run.store) []
+  at_start =
       start run.s run.slot run.store run.started
-      (ltb-true run.s.0 (2 ^ 32) (and_left (ltb run.s.0 (2 ^ 32)) (allInWidth run.calls) run.widths))
+      (ltb-true run.s.0 (2 ^ 32) (and_left (ltb run.s.0 (2 ^ 32)) (all_in_width run.calls) run.widths))
 
   -- and at the end
-  pub at-end : At run.s.0 run.slot (end_of run) (historyOf run)
-  at-end =
-      steps run.s.0 run.slot (begun run.s run.slot run.store) [] run.calls at-start
-      (and_right (ltb run.s.0 (2 ^ 32)) (allInWidth run.calls) run.widths)
+  pub at_end : At run.s.0 run.slot (end_of run) (history_of run)
+  at_end =
+      steps run.s.0 run.slot (begun run.s run.slot run.store) [] run.calls at_start
+      (and_right (ltb run.s.0 (2 ^ 32)) (all_in_width run.calls) run.widths)
 
-  pub known : Known run.s.0 run.slot (end_of run).state (end_of run).store (acceptedIn (historyOf run)) (takenIn (historyOf run))
-  known = at-end.known
+  pub known : Known run.s.0 run.slot (end_of run).state (end_of run).store (accepted_in (history_of run)) (taken_in (history_of run))
+  known = at_end.known
 
   module _ (n : ℕ) where
     -- what is held is not below the next to take, and has the bytes of its first packet;
     held-is : (bytes : List ℕ) → HeldWith run n bytes → (next_of run ≤ n) × AcceptedWith run n bytes
-    held-is bytes h = told-held (next_of run) (highestIn run) n (first run n) bytes (sym (known.stands n) ∙ h)
+    held-is bytes h = told-held (next_of run) (highest_in run) n (first run n) bytes (sym (known.stands n) ∙ h)
 
     -- what is missing is not below it either, and was never accepted;
-    missing-never : Missing run n → (next_of run ≤ n) × NeverAccepted run n
-    missing-never m =
-        told-open (next_of run) (highestIn run) n (first run n) (inl (sym (known.stands n) ∙ missing-told (end_of run).state (end_of run).store n m))
+    missing_never : Missing run n → (next_of run ≤ n) × NeverAccepted run n
+    missing_never m =
+        told_open (next_of run) (highest_in run) n (first run n) (inl (sym (known.stands n) ∙ missing-told (end_of run).state (end_of run).store n m))
 
     -- what was taken is below it
     pub taken-below : Taken run n → n < next_of run
@@ -61,14 +61,14 @@ module _ (run : Run) where
     pub accepted-held : (bytes : List ℕ) → next_of run ≤ n → AcceptedWith run n bytes → HeldWith run n bytes
     accepted-held bytes a e = known.stands n ∙ rw (le-ltb n (next_of run) a, e)
 
-    module _ (low : run.s.0 < n) (high : n ≤ highestAccepted run) where
-      never-missing : NeverAccepted run n → Missing run n
-      never-missing e =
+    module _ (low : run.s.0 < n) (high : n ≤ highest_accepted run) where
+      never_missing : NeverAccepted run n → Missing run n
+      never_missing e =
           case
-          (λ (a : n < next_of run). let t = known.taken-all n low a in some-not-none t.2 e)
+          (λ (a : n < next_of run). let t = known.taken-all n low a in some_not_none t.2 e)
           (λ (a : n < next_of run → ⊥).
           told-missing (end_of run).state (end_of run).store n
-          (known.stands n ∙ rw (le-ltb n (next_of run) (omega arith), e, le-leb n (highestIn run) (omega (arith, known.highest-is)))))
+          (known.stands n ∙ rw (le-ltb n (next_of run) (omega arith), e, le-leb n (highest_in run) (omega (arith, known.highest-is)))))
           (dec_lt n (next_of run))
 
       placed : ExactlyOne (Taken run n) (Held run n) (Missing run n)
@@ -76,40 +76,40 @@ module _ (run : Run) where
           case
           (λ (a : n < next_of run).
           let t = known.taken-all n low a in
-          the-first (t.0, t.1) (λ h. let k = held-is h.0 h.1 in omega arith) (λ m. let k = missing-never m in omega arith))
+          the-first (t.0, t.1) (λ h. let k = held-is h.0 h.1 in omega arith) (λ m. let k = missing_never m in omega arith))
           (λ (a : n < next_of run → ⊥).
           by_first (first run n)
-          (λ e. the-third (λ t. a (taken-below t)) (λ h. some-not-none (held-is h.0 h.1).1 e) (never-missing e))
+          (λ e. the_third (λ t. a (taken-below t)) (λ h. some_not_none (held-is h.0 h.1).1 e) (never_missing e))
           (λ bytes e.
-          the_second (λ t. a (taken-below t)) (bytes, accepted-held bytes (omega arith) e) (λ m. some-not-none e (missing-never m).1)))
+          the_second (λ t. a (taken-below t)) (bytes, accepted-held bytes (omega arith) e) (λ m. some_not_none e (missing_never m).1)))
           (dec_lt n (next_of run))
 
   -- 1. each number from s + 1 to the highest accepted is taken, held or, exactly if it was never accepted, missing, and one of them only
-  pub nothing-lost : NothingLost run
-  nothing-lost = record {
+  pub nothing_lost : NothingLost run
+  nothing_lost = record {
     one_place = placed;
-    missing-is = λ n low high. (λ m. (missing-never n m).1, never-missing n low high);
-    in-range = λ n bytes e. (known.above n bytes e, under-highest n run.s.0 (acceptedIn (historyOf run)) bytes e);
+    missing-is = λ n low high. (λ m. (missing_never n m).1, never_missing n low high);
+    in_range = λ n bytes e. (known.above n bytes e, under_highest n run.s.0 (accepted_in (history_of run)) bytes e);
     held_first = λ n bytes h. (held-is n bytes h).1;
   }
 
   -- 2. takes come as s + 1, s + 2 and on, each with the bytes of the first accepted packet of that number
   pub in_order : InOrder run
   in_order = record {
-    as-numbered = λ k piece e. (known.ordered k piece e).0;
+    as_numbered = λ k piece e. (known.ordered k piece e).0;
     bytes-first = λ k piece e. (known.ordered k piece e).1;
     next-is = known.next-is;
   }
 
   -- 4. no call of a run is refused 11, and none 10, since the store keeps its length
-  pub never-at-fault : NeverAtFault run
-  never-at-fault = record {
-    never-11-or-10 = at-end.fair;
+  pub never_at_fault : NeverAtFault run
+  never_at_fault = record {
+    never_11_or_10 = at_end.fair;
     store_length = omega (
       arith,
       store_length (end_of run).state (end_of run).store known.sound,
       known.slot_is,
-      store_length (begun run.s run.slot run.store).state run.store at-start.known.sound,
-      at-start.known.slot_is,
+      store_length (begun run.s run.slot run.store).state run.store at_start.known.sound,
+      at_start.known.slot_is,
     );
   }

@@ -9,9 +9,9 @@ use borrow.Author.Tests.{le-leb, leb-true}
 use lib.ListN.{length, get_or}
 use Rattle.terms.specs.Lists.{all, each, part}
 use Rattle.terms.proofs.Laws.{case, bool_iff, and_left, and_right, and_both, part_at, part_of}
-use Rattle.receiver_state.specs.Slots.{at_most, bandedOf, slotNumber}
-use Rattle.receiver_state.specs.Rules.{freeOutside, lengthAtMost}
-use Rattle.receiver_state.proofs.Facts.{free-at, free_of, short-at, short-of}
+use Rattle.receiver_state.specs.Slots.{at_most, banded_of, slot_number}
+use Rattle.receiver_state.specs.Rules.{free_outside, length_at_most}
+use Rattle.receiver_state.proofs.Facts.{free_at, free_of_lem, short_at, short_of}
 
 module _ (marks : List ℕ) (from to inner outer : ℕ) where
   front : Bool
@@ -24,25 +24,25 @@ module _ (marks : List ℕ) (from to inner outer : ℕ) where
   back = all (at_most outer) (part marks to (length marks))
 
   module _ (high : to ≤ length marks) where
-    pub band-in : bandedOf marks from to inner outer ≡ true → (k : ℕ) → from ≤ k → k < to → get_or marks k 0 ≤ inner
+    pub band_in : banded_of marks from to inner outer ≡ true → (k : ℕ) → from ≤ k → k < to → get_or marks k 0 ≤ inner
     unfolding front middle back
-    band-in t k a b =
+    band_in t k a b =
         leb-true (get_or marks k 0) inner (part_at (at_most inner) marks from to (and_left middle back (and_right front (middle && back) t)) k a b (omega arith))
 
-    pub band-out : bandedOf marks from to inner outer ≡ true → (k : ℕ) → k < length marks → ((k < from → ⊥) → to ≤ k) → get_or marks k 0 ≤ outer
+    pub band_out : banded_of marks from to inner outer ≡ true → (k : ℕ) → k < length marks → ((k < from → ⊥) → to ≤ k) → get_or marks k 0 ≤ outer
     unfolding front middle back
-    band-out t k h o =
+    band_out t k h o =
         case
         (λ (q : k < from). leb-true (get_or marks k 0) outer (part_at (at_most outer) marks 0 from (and_left front (middle && back) t) k (omega arith) q h))
         (λ (q : k < from → ⊥).
         leb-true (get_or marks k 0) outer (part_at (at_most outer) marks to (length marks) (and_right middle back (and_right front (middle && back) t)) k (o q) h h))
         (dec_lt k from)
 
-    pub band-of : ((k : ℕ) → from ≤ k → k < to → get_or marks k 0 ≤ inner) → ((k : ℕ) → k < from → get_or marks k 0 ≤ outer)
+    pub band_of : ((k : ℕ) → from ≤ k → k < to → get_or marks k 0 ≤ inner) → ((k : ℕ) → k < from → get_or marks k 0 ≤ outer)
         → ((k : ℕ) → to ≤ k → k < length marks → get_or marks k 0 ≤ outer)
-        → bandedOf marks from to inner outer ≡ true
+        → banded_of marks from to inner outer ≡ true
     unfolding front middle back
-    band-of f g h =
+    band_of f g h =
         and_both front (middle && back)
         (part_of (at_most outer) marks 0 from (λ k a b _. le-leb (get_or marks k 0) outer (g k b)))
         (and_both middle back
@@ -53,55 +53,55 @@ module _ (marks : List ℕ) (from to inner outer : ℕ) where
 module _ (slot next highest : ℕ) (marks : List ℕ) (long : length marks ≡ 512) (wide : (k : ℕ) → get_or marks k 0 < 65536) where
   -- what a slot's mark may be, where its number is up to highest and where it is above
   record Right (k : ℕ) : Type 0 where
-    below : slotNumber next k ≤ highest → get_or marks k 0 ≤ min (slot + 1) 65535
-    above : highest < slotNumber next k → get_or marks k 0 ≤ 0
+    below : slot_number next k ≤ highest → get_or marks k 0 ≤ min (slot + 1) 65535
+    above : highest < slot_number next k → get_or marks k 0 ≤ 0
 
-  right-at : (each (freeOutside next highest) 0 marks && all (lengthAtMost slot) marks) ≡ true → (k : ℕ) → k < 512 → Right k
-  right-at t k h =
-      let free = free-at next highest marks (and_left (each (freeOutside next highest) 0 marks) (all (lengthAtMost slot) marks) t) k (omega arith) in
-      let short = short-at slot marks (and_right (each (freeOutside next highest) 0 marks) (all (lengthAtMost slot) marks) t) k (omega arith) in
+  right_at : (each (free_outside next highest) 0 marks && all (length_at_most slot) marks) ≡ true → (k : ℕ) → k < 512 → Right k
+  right_at t k h =
+      let free = free_at next highest marks (and_left (each (free_outside next highest) 0 marks) (all (length_at_most slot) marks) t) k (omega arith) in
+      let short = short_at slot marks (and_right (each (free_outside next highest) 0 marks) (all (length_at_most slot) marks) t) k (omega arith) in
       record { below = λ _. omega (arith, wide k); above = λ a. omega (arith, free a) }
 
-  right_of : ((k : ℕ) → k < 512 → Right k) → (each (freeOutside next highest) 0 marks && all (lengthAtMost slot) marks) ≡ true
+  right_of : ((k : ℕ) → k < 512 → Right k) → (each (free_outside next highest) 0 marks && all (length_at_most slot) marks) ≡ true
   right_of f =
-      and_both (each (freeOutside next highest) 0 marks) (all (lengthAtMost slot) marks)
-      (free_of next highest marks (λ k h a. omega (arith, (f k (omega arith)).above a)))
-      (short-of slot marks
+      and_both (each (free_outside next highest) 0 marks) (all (length_at_most slot) marks)
+      (free_of_lem next highest marks (λ k h a. omega (arith, (f k (omega arith)).above a)))
+      (short_of slot marks
       (λ k h.
       case
-      (λ (q : highest < slotNumber next k). omega (arith, (f k (omega arith)).above q))
-      (λ (q : highest < slotNumber next k → ⊥). omega (arith, (f k (omega arith)).below (omega arith)))
-      (dec_lt highest (slotNumber next k))))
+      (λ (q : highest < slot_number next k). omega (arith, (f k (omega arith)).above q))
+      (λ (q : highest < slot_number next k → ⊥). omega (arith, (f k (omega arith)).below (omega arith)))
+      (dec_lt highest (slot_number next k))))
 
   module _ (low : next ≤ highest + 1) (far : highest ≤ next + 511) (end : ℕ) (is : end ≡ next % 512 + (highest + 1 - next)) where
     pub one-run : end ≤ 512
-        → bandedOf marks (next % 512) end (min (slot + 1) 65535) 0 ≡ (each (freeOutside next highest) 0 marks && all (lengthAtMost slot) marks)
+        → banded_of marks (next % 512) end (min (slot + 1) 65535) 0 ≡ (each (free_outside next highest) 0 marks && all (length_at_most slot) marks)
     one-run fit =
-        bool_iff (bandedOf marks (next % 512) end (min (slot + 1) 65535) 0) (each (freeOutside next highest) 0 marks && all (lengthAtMost slot) marks)
+        bool_iff (banded_of marks (next % 512) end (min (slot + 1) 65535) 0) (each (free_outside next highest) 0 marks && all (length_at_most slot) marks)
         (λ t.
         right_of
         (λ k h. record {
-          below = λ a. band-in marks (next % 512) end (min (slot + 1) 65535) 0 (omega arith) t k (omega arith) (omega arith);
-          above = λ a. band-out marks (next % 512) end (min (slot + 1) 65535) 0 (omega arith) t k (omega arith) (λ q. omega arith);
+          below = λ a. band_in marks (next % 512) end (min (slot + 1) 65535) 0 (omega arith) t k (omega arith) (omega arith);
+          above = λ a. band_out marks (next % 512) end (min (slot + 1) 65535) 0 (omega arith) t k (omega arith) (λ q. omega arith);
         }))
         (λ t.
-        band-of marks (next % 512) end (min (slot + 1) 65535) 0 (omega arith)
-        (λ k a b. (right-at t k (omega arith)).below (omega arith))
-        (λ k a. (right-at t k (omega arith)).above (omega arith))
-        (λ k a b. (right-at t k (omega arith)).above (omega arith)))
+        band_of marks (next % 512) end (min (slot + 1) 65535) 0 (omega arith)
+        (λ k a b. (right_at t k (omega arith)).below (omega arith))
+        (λ k a. (right_at t k (omega arith)).above (omega arith))
+        (λ k a b. (right_at t k (omega arith)).above (omega arith)))
 
     pub two_runs : 512 < end
-        → bandedOf marks (end - 512) (next % 512) 0 (min (slot + 1) 65535) ≡ (each (freeOutside next highest) 0 marks && all (lengthAtMost slot) marks)
+        → banded_of marks (end - 512) (next % 512) 0 (min (slot + 1) 65535) ≡ (each (free_outside next highest) 0 marks && all (length_at_most slot) marks)
     two_runs over =
-        bool_iff (bandedOf marks (end - 512) (next % 512) 0 (min (slot + 1) 65535)) (each (freeOutside next highest) 0 marks && all (lengthAtMost slot) marks)
+        bool_iff (banded_of marks (end - 512) (next % 512) 0 (min (slot + 1) 65535)) (each (free_outside next highest) 0 marks && all (length_at_most slot) marks)
         (λ t.
         right_of
         (λ k h. record {
-          below = λ a. band-out marks (end - 512) (next % 512) 0 (min (slot + 1) 65535) (omega arith) t k (omega arith) (λ q. omega arith);
-          above = λ a. band-in marks (end - 512) (next % 512) 0 (min (slot + 1) 65535) (omega arith) t k (omega arith) (omega arith);
+          below = λ a. band_out marks (end - 512) (next % 512) 0 (min (slot + 1) 65535) (omega arith) t k (omega arith) (λ q. omega arith);
+          above = λ a. band_in marks (end - 512) (next % 512) 0 (min (slot + 1) 65535) (omega arith) t k (omega arith) (omega arith);
         }))
         (λ t.
-        band-of marks (end - 512) (next % 512) 0 (min (slot + 1) 65535) (omega arith)
-        (λ k a b. (right-at t k (omega arith)).above (omega arith))
-        (λ k a. (right-at t k (omega arith)).below (omega arith))
-        (λ k a b. (right-at t k (omega arith)).below (omega arith)))
+        band_of marks (end - 512) (next % 512) 0 (min (slot + 1) 65535) (omega arith)
+        (λ k a b. (right_at t k (omega arith)).above (omega arith))
+        (λ k a. (right_at t k (omega arith)).below (omega arith))
+        (λ k a b. (right_at t k (omega arith)).below (omega arith)))

@@ -2,19 +2,19 @@
 use Rattle.std.specs.Prelude.{ℕ, ◌+◌, ◌-◌, ◌*◌, Bool, ◌||◌, leb, ltb, eqb}
 use Rattle.terms.specs.Ladder.{◌and◌}
 use Rattle.terms.specs.Lists.{all, each}
-use Rattle.receiver_state.specs.Slots.{isFree, is_held, length_of, mark_of, slotNumber}
+use Rattle.receiver_state.specs.Slots.{is_free, is_held, length_of, mark_of, slot_number}
 use Rattle.receiver_state.specs.declared.Receiver.{Receiver}
 
 -- a slot is free where its number is above highest; none is below next
-abbrev pub freeOutside : ℕ → ℕ → ℕ → ℕ → Bool
-freeOutside next highest i mark = leb (slotNumber next i) highest || isFree mark
+abbrev pub free_outside : ℕ → ℕ → ℕ → ℕ → Bool
+free_outside next highest i mark = leb (slot_number next i) highest || is_free mark
 
-abbrev pub lengthAtMost : ℕ → ℕ → Bool
-lengthAtMost slot mark = leb (length_of mark) slot
+abbrev pub length_at_most : ℕ → ℕ → Bool
+length_at_most slot mark = leb (length_of mark) slot
 
 -- the state rules, in document 01's order; the slot size is judged as it stands, whatever it is
-unfoldable pub rulesOf : Receiver → Bool
-rulesOf r =
+unfoldable pub rules_of : Receiver → Bool
+rules_of r =
     let next = r.head.next.0 in
     let highest = r.head.highest.0 in
     -- next at least 1
@@ -29,14 +29,14 @@ rulesOf r =
     -- highest at most 4,294,967,294
     leb highest 4294967294 and
     -- nothing held outside next to highest
-    each (freeOutside next highest) 0 r.marks and
+    each (free_outside next highest) 0 r.marks and
     -- lengths at most S; and 0 where nothing is held, which no mark can break
-    all (lengthAtMost r.head.slot) r.marks
+    all (length_at_most r.head.slot) r.marks
 
 -- slot size S is 1 to 1,812
-unfoldable pub slotFits : ℕ → Bool
-slotFits slot = leb 1 slot and leb slot 1812
+unfoldable pub slot_fits : ℕ → Bool
+slot_fits slot = leb 1 slot and leb slot 1812
 
 -- and the store exactly 512 × S bytes
-unfoldable pub sizesFit : ℕ → ℕ → Bool
-sizesFit slot storeLength = slotFits slot and eqb storeLength (512 * slot)
+unfoldable pub sizes_fit : ℕ → ℕ → Bool
+sizes_fit slot store_length = slot_fits slot and eqb store_length (512 * slot)

@@ -2,10 +2,10 @@
 // Ports what `InboundContext` keeps. Its `BTreeMap`, `BTreeSet` and `VecDeque` become that table.
 ghost use Rattle.std.specs.Prelude.{◌≡◌, ◌&&◌, ◌||◌, ◌+◌, ◌-◌, ◌≤◌, min, eqb, length};
 ghost use Rattle.terms.specs.Lists.{all, each};
-ghost use Rattle.receiver_state.specs.Slots.{is_held, mark_of, at_most, bandedOf};
+ghost use Rattle.receiver_state.specs.Slots.{is_held, mark_of, at_most, banded_of};
 ghost use Rattle.receiver_state.specs.Answers.{◌over◌};
-ghost use Rattle.receiver_state.specs.Rules.{freeOutside, lengthAtMost, rulesOf, slotFits, sizesFit};
-ghost use Rattle.receiver_state.specs.Start.{nothingHeld, start_of, started};
+ghost use Rattle.receiver_state.specs.Rules.{free_outside, length_at_most, rules_of, slot_fits, sizes_fit};
+ghost use Rattle.receiver_state.specs.Start.{nothing_held, start_of, started};
 
 use terms::{Answer, Refusal, SeqNo};
 
@@ -55,7 +55,7 @@ fn within(marks: &[u16], top: u16) -> bool
 // Whether each mark from index from up to index to is at most inner, and each other at most outer. Each is touched once.
 fn banded(marks: &[u16], from: usize, to: usize, inner: u16, outer: u16) -> bool
     requires { (from ≤ to) × (to ≤ length marks.now) }
-    ensures { result ≡ bandedOf marks.now from to inner outer }
+    ensures { result ≡ banded_of marks.now from to inner outer }
 {
     let before = within(&marks[0..from], outer);
     let inside = within(&marks[from..to], inner);
@@ -78,7 +78,7 @@ fn top_mark(slot: u32) -> u16
 // one run of the table, or one at its end and one at its front.
 fn slots_hold(slot: u32, next: SeqNo, highest: SeqNo, marks: &[u16]) -> bool
     requires { (length marks.now ≡ 512) × (next.0 ≤ highest.0 + 1) × (highest.0 ≤ next.0 + 511) × (highest.0 ≤ 4294967294) }
-    ensures { result ≡ (each (freeOutside next.0 highest.0) 0 marks.now && all (lengthAtMost slot) marks.now) }
+    ensures { result ≡ (each (free_outside next.0 highest.0) 0 marks.now && all (length_at_most slot) marks.now) }
 {
     let first = (next.0 % 512) as usize;
     let end = first + (highest.0 + 1 - next.0) as usize;
@@ -105,7 +105,7 @@ fn highest_held(next: SeqNo, highest: SeqNo, marks: &[u16]) -> bool
 // It runs at every call, so each mark is touched once.
 pub fn rules_hold(h: Head, marks: &[u16]) -> bool
     requires { length marks.now ≡ 512 }
-    ensures { result ≡ rulesOf (h over (λ x. x.now) marks.entry) }
+    ensures { result ≡ rules_of (h over (λ x. x.now) marks.entry) }
 {
     let next = h.next.0;
     let highest = h.highest.0;
@@ -132,7 +132,7 @@ pub fn rules_hold(h: Head, marks: &[u16]) -> bool
 
 // Whether the slot size is 1 to 1,812: the part of refusal 10 that needs no store.
 pub fn slot_fits(slot: u32) -> bool
-    ensures { result ≡ slotFits slot }
+    ensures { result ≡ slot_fits slot }
 {
     if slot < 1 {
         return false;
@@ -142,7 +142,7 @@ pub fn slot_fits(slot: u32) -> bool
 
 // Whether the slot size is in range and the store has 512 slots of it.
 pub fn sizes_fit(slot: u32, store_length: usize) -> bool
-    ensures { result ≡ sizesFit slot store_length }
+    ensures { result ≡ sizes_fit slot store_length }
 {
     if !slot_fits(slot) {
         return false;
@@ -152,7 +152,7 @@ pub fn sizes_fit(slot: u32, store_length: usize) -> bool
 
 // A state with nothing held.
 fn empty(slot: u32, start: SeqNo, next: SeqNo) -> Receiver
-    ensures { result ≡ nothingHeld slot start next }
+    ensures { result ≡ nothing_held slot start next }
 {
     let none = Head {
         slot: slot,

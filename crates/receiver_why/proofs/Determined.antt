@@ -12,13 +12,13 @@ use Rattle.terms.specs.Answers.{values}
 use Rattle.terms.proofs.Determined.{determined}
 use Rattle.terms.proofs.Numbers.{number-one}
 use Rattle.receiver_state.specs.declared.Receiver.{Receiver}
-use Rattle.receiver_why.specs.Reasons.{saidWhy, whyOf}
+use Rattle.receiver_why.specs.Reasons.{said_why, why_of}
 use Rattle.receiver_why.specs.declared.Reason.{Reason}
 use Rattle.receiver_why.specs.declared.Reason.TheVariants as W
 
 -- the answer that is told by these numbers
-abbrev answerAt : ℕ → ℕ → Reason
-answerAt k m =
+abbrev answer_at : ℕ → ℕ → Reason
+answer_at k m =
     W.LastNumber when eqb k 1 else
     W.AtOrBelowStart when eqb k 2 else
     W.Taken when eqb k 3 else
@@ -28,13 +28,13 @@ answerAt k m =
     W.NotYetSeen when eqb k 7 else
     W.BeyondSpan
 
-abbrev answerBy : List ℕ → Reason
-answerBy l = answerAt (get_or l 0 0) (get_or l 1 0)
+abbrev answer_by : List ℕ → Reason
+answer_by l = answer_at (get_or l 0 0) (get_or l 1 0)
 
 -- an answer is a refusal, or the one that its numbers tell
 data Told (w : Reason) : Type 0 where
   refused : (why : Refusal) → w ≡ W.Refused why → Told w
-  given : (l : List ℕ) → saidWhy w ≡ values l → w ≡ answerBy l → Told w
+  given : (l : List ℕ) → said_why w ≡ values l → w ≡ answer_by l → Told w
 
 told : (w : Reason) → Told w
 told W.LastNumber = given _ refl refl
@@ -47,21 +47,21 @@ told W.NotYetSeen = given _ refl refl
 told W.BeyondSpan = given _ refl refl
 told (W.Refused why) = refused why refl
 
-same : (a b : Reason) → saidWhy a ≡ saidWhy b → Told a → Told b → a ≡ b
+same : (a b : Reason) → said_why a ≡ said_why b → Told a → Told b → a ≡ b
 same a b e (refused x p) (refused y q) =
-    let s = sym (ap saidWhy p) ∙ e ∙ ap saidWhy q in
+    let s = sym (ap said_why p) ∙ e ∙ ap said_why q in
     p ∙ ap W.Refused (number-one x y (cc)) ∙ sym q
 same a b e (refused x p) (given l s q) =
-    let t = sym (ap saidWhy p) ∙ e ∙ s in
+    let t = sym (ap said_why p) ∙ e ∙ s in
     let z : ◌≡◌ {A = ℕ} 0 1 = cc in
     absurd (omega arith)
 same a b e (given l s p) (refused y q) =
-    let t = sym s ∙ e ∙ ap saidWhy q in
+    let t = sym s ∙ e ∙ ap said_why q in
     let z : ◌≡◌ {A = ℕ} 0 1 = cc in
     absurd (omega arith)
 same a b e (given l s p) (given m t q) =
     let u : l ≡ m = cc in
-    p ∙ ap answerBy u ∙ sym q
+    p ∙ ap answer_by u ∙ sym q
 
-pub why-determined : (r : Receiver) (n : SeqNo) (a b : Reason) → saidWhy a ≡ whyOf r n → saidWhy b ≡ whyOf r n → a ≡ b
-why-determined r n a b p q = same a b (determined p q) (told a) (told b)
+pub why_determined : (r : Receiver) (n : SeqNo) (a b : Reason) → said_why a ≡ why_of r n → said_why b ≡ why_of r n → a ≡ b
+why_determined r n a b p q = same a b (determined p q) (told a) (told b)

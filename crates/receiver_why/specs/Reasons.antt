@@ -4,79 +4,79 @@ use Rattle.terms.specs.declared.SeqNo.{SeqNo}
 use Rattle.terms.specs.Ladder.{◌when◌else◌}
 use Rattle.terms.specs.Refusals.{number_of}
 use Rattle.terms.specs.Answers.{Said, refusal, values}
-use Rattle.receiver_state.specs.Slots.{isFree, mark_of}
-use Rattle.receiver_state.specs.Rules.{rulesOf, slotFits}
+use Rattle.receiver_state.specs.Slots.{is_free, mark_of}
+use Rattle.receiver_state.specs.Rules.{rules_of, slot_fits}
 use Rattle.receiver_state.specs.declared.Receiver.{Receiver}
 use Rattle.receiver_why.specs.declared.Reason.{Reason}
 use Rattle.receiver_why.specs.declared.Reason.TheVariants as W
 
 -- the first of so many numbers, from first on, that is not held; the one behind them where all are
-unfoldable pub firstMissing : List ℕ → ℕ → ℕ → ℕ
-firstMissing marks first zero = first
-firstMissing marks first (suc more) = first when isFree (mark_of marks first) else firstMissing marks (suc first) more
+unfoldable pub first_missing : List ℕ → ℕ → ℕ → ℕ
+first_missing marks first zero = first
+first_missing marks first (suc more) = first when is_free (mark_of marks first) else first_missing marks (suc first) more
 
 -- the smallest missing number of a receiver; one above highest where nothing is missing
-abbrev pub smallestMissing : Receiver → ℕ
-smallestMissing r = firstMissing r.marks r.head.next.0 (r.head.highest.0 + 1 - r.head.next.0)
+abbrev pub smallest_missing : Receiver → ℕ
+smallest_missing r = first_missing r.marks r.head.next.0 (r.head.highest.0 + 1 - r.head.next.0)
 
 -- the seven that are left where the number can be used
 pub data Case : Type 0 where
   -- at or below the start
-  belowStart : Case
-  wasTaken : Case
+  below_start : Case
+  was_taken : Case
   -- held with nothing missing below it
-  isReady : Case
+  is_ready : Case
   -- held behind a gap
-  behindGap : Case
+  behind_gap : Case
   -- missing: never accepted, and not above highest
-  neverCame : Case
+  never_came : Case
   -- above highest but less than 512 from the next to take
-  notYetSeen : Case
-  beyondSpan : Case
+  not_yet_seen : Case
+  beyond_span : Case
 
 -- which of them it is
 unfoldable pub case_of : Receiver → ℕ → Case
 case_of r n =
-    belowStart when leb n r.head.start.0 else
-    wasTaken when ltb n r.head.next.0 else
-    beyondSpan when leb 512 (n - r.head.next.0) else
-    notYetSeen when ltb r.head.highest.0 n else
-    neverCame when isFree (mark_of r.marks n) else
-    behindGap when ltb (smallestMissing r) n else
-    isReady
+    below_start when leb n r.head.start.0 else
+    was_taken when ltb n r.head.next.0 else
+    beyond_span when leb 512 (n - r.head.next.0) else
+    not_yet_seen when ltb r.head.highest.0 n else
+    never_came when is_free (mark_of r.marks n) else
+    behind_gap when ltb (smallest_missing r) n else
+    is_ready
 
 -- a case in numbers: 1 is the unusable last number, 2 to 8 are the seven; one that is held behind a gap names the smallest missing number
-abbrev pub lastNumber : Said
-lastNumber = values (1 ∷ [])
+abbrev pub last_number : Said
+last_number = values (1 ∷ [])
 
-abbrev pub saidCase : Receiver → Case → Said
-saidCase r belowStart = values (2 ∷ [])
-saidCase r wasTaken = values (3 ∷ [])
-saidCase r isReady = values (4 ∷ [])
-saidCase r behindGap = values (5 ∷ smallestMissing r ∷ [])
-saidCase r neverCame = values (6 ∷ [])
-saidCase r notYetSeen = values (7 ∷ [])
-saidCase r beyondSpan = values (8 ∷ [])
+abbrev pub said_case : Receiver → Case → Said
+said_case r below_start = values (2 ∷ [])
+said_case r was_taken = values (3 ∷ [])
+said_case r is_ready = values (4 ∷ [])
+said_case r behind_gap = values (5 ∷ smallest_missing r ∷ [])
+said_case r never_came = values (6 ∷ [])
+said_case r not_yet_seen = values (7 ∷ [])
+said_case r beyond_span = values (8 ∷ [])
 
 -- the answer; the last number is tested first
-unfoldable pub whyOf : Receiver → SeqNo → Said
-whyOf r number =
+unfoldable pub why_of : Receiver → SeqNo → Said
+why_of r number =
     -- state breaks the rules
-    refusal 11 when not (rulesOf r) else
+    refusal 11 when not (rules_of r) else
     -- slot size wrong; no store is lent
-    refusal 10 when not (slotFits r.head.slot) else
+    refusal 10 when not (slot_fits r.head.slot) else
     -- the unusable last number
-    lastNumber when eqb number.0 4294967295 else
-    saidCase r (case_of r number.0)
+    last_number when eqb number.0 4294967295 else
+    said_case r (case_of r number.0)
 
 -- an answer of the code, in these terms
-abbrev pub saidWhy : Reason → Said
-saidWhy W.LastNumber = lastNumber
-saidWhy W.AtOrBelowStart = values (2 ∷ [])
-saidWhy W.Taken = values (3 ∷ [])
-saidWhy W.Ready = values (4 ∷ [])
-saidWhy (W.BehindGap smallest) = values (5 ∷ smallest.0 ∷ [])
-saidWhy W.Missing = values (6 ∷ [])
-saidWhy W.NotYetSeen = values (7 ∷ [])
-saidWhy W.BeyondSpan = values (8 ∷ [])
-saidWhy (W.Refused why) = refusal (number_of why)
+abbrev pub said_why : Reason → Said
+said_why W.LastNumber = last_number
+said_why W.AtOrBelowStart = values (2 ∷ [])
+said_why W.Taken = values (3 ∷ [])
+said_why W.Ready = values (4 ∷ [])
+said_why (W.BehindGap smallest) = values (5 ∷ smallest.0 ∷ [])
+said_why W.Missing = values (6 ∷ [])
+said_why W.NotYetSeen = values (7 ∷ [])
+said_why W.BeyondSpan = values (8 ∷ [])
+said_why (W.Refused why) = refusal (number_of why)

@@ -1,7 +1,7 @@
 // Why a piece is not delivered: of any receiver and any number, where the number stands. For support.
 ghost use Rattle.std.specs.Prelude.{◌≡◌, ◌+◌, ◌-◌, ◌≤◌, length};
 ghost use Rattle.receiver_state.specs.Answers.{◌over◌};
-ghost use Rattle.receiver_why.specs.Reasons.{firstMissing, whyOf, saidWhy};
+ghost use Rattle.receiver_why.specs.Reasons.{first_missing, why_of, said_why};
 
 use receiver_state::{Head, Receiver};
 use terms::{Refusal, SeqNo};
@@ -31,7 +31,7 @@ pub enum Reason {
 // The smallest number from next on that is not held; where all of them up to highest are, the one above highest.
 fn first_missing(next: SeqNo, highest: SeqNo, marks: &[u16]) -> SeqNo
     requires { (length marks.now ≡ 512) × (next.0 ≤ highest.0 + 1) × (highest.0 ≤ 4294967294) }
-    ensures { result.0 ≡ firstMissing marks.now next.0 (highest.0 + 1 - next.0) }
+    ensures { result.0 ≡ first_missing marks.now next.0 (highest.0 + 1 - next.0) }
 {
     let mut number = next.0;
     let last = highest.0;
@@ -48,7 +48,7 @@ fn first_missing(next: SeqNo, highest: SeqNo, marks: &[u16]) -> SeqNo
 // why, of a state that keeps the rules and a number that can be used, over the state's head and its table lent.
 fn stands(h: Head, marks: &[u16], n: SeqNo) -> Reason
     requires { length marks.now ≡ 512 }
-    ensures { saidWhy result ≡ whyOf (h over (λ x. x.now) marks.entry) n }
+    ensures { said_why result ≡ why_of (h over (λ x. x.now) marks.entry) n }
 {
     let number = n.0;
     let start = h.start.0;
@@ -88,7 +88,7 @@ fn stands(h: Head, marks: &[u16], n: SeqNo) -> Reason
 
 // Says where a number stands in a receiver, which it leaves as it was. Refusals: 11, then 10 for the slot size; no store is lent.
 pub fn why(r: Receiver, n: SeqNo) -> Reason
-    ensures { saidWhy result ≡ whyOf r n }
+    ensures { said_why result ≡ why_of r n }
 {
     stands(r.head, &r.marks, n)
 }

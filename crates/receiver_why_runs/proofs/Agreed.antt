@@ -9,27 +9,27 @@ use native.Mathlib.Decide.{dec_lt}
 use native.Mathlib.Omega.{arith}
 use Rattle.terms.specs.declared.SeqNo.{SeqNo}
 use Rattle.terms.proofs.Laws.{case}
-use Rattle.receiver_state.specs.Slots.{heldBytes}
-use Rattle.receiver_state.specs.Rules.{slotFits}
+use Rattle.receiver_state.specs.Slots.{held_bytes}
+use Rattle.receiver_state.specs.Rules.{slot_fits}
 use Rattle.receiver_state.specs.declared.Receiver.{Receiver}
 use Rattle.receiver_state.proofs.Facts.{Ruled, ruled}
 use Rattle.receiver_calls.specs.Meaning.{standing, held}
 use Rattle.receiver_calls.proofs.Standings.{is-taken, is-unseen, is-missing, is-held}
-use Rattle.receiver_calls.proofs.Laws.{where-is, slot-fits}
-use Rattle.receiver_why.specs.Reasons.{Case, belowStart, wasTaken, isReady, behindGap, neverCame, notYetSeen, beyondSpan, smallestMissing}
+use Rattle.receiver_calls.proofs.Laws.{where_is, slot-fits}
+use Rattle.receiver_why.specs.Reasons.{Case, below_start, was_taken, is_ready, behind_gap, never_came, not_yet_seen, beyond_span, smallest_missing}
 use Rattle.receiver_why.specs.Stands.{IsHeld, Holds, ExactlyOneCase}
 use Rattle.receiver_why.proofs.Cases.{lacks, none_below, is-smallest}
 use Rattle.receiver_why.proofs.One.{exactly-one}
-use Rattle.receiver_why.proofs.Ways.{why-last}
+use Rattle.receiver_why.proofs.Ways.{why_last}
 use Rattle.receiver_runs.specs.Runs.{Run, end_of}
-use Rattle.receiver_runs.specs.Delivered.{Taken, Held, highestAccepted}
-use Rattle.receiver_runs.proofs.Places.{known, nothing-lost}
+use Rattle.receiver_runs.specs.Delivered.{Taken, Held, highest_accepted}
+use Rattle.receiver_runs.proofs.Places.{known, nothing_lost}
 use Rattle.receiver_why_runs.specs.Agrees.{Agrees, AgreesThroughout}
 
 -- what is held lies from next to highest, and its slot is not free
 is_within : (r : Receiver) (store : List ℕ) (n : ℕ) (bytes : List ℕ) → standing r store n ≡ held bytes → IsHeld r n
 is_within r store n bytes e =
-    where-is r n
+    where_is r n
     (λ a. let s = is-taken r store n a in let z : ◌≡◌ {A = ℕ} 0 1 = cc in absurd (omega arith))
     (λ a b. let s = is-unseen r store n a b in let z : ◌≡◌ {A = ℕ} 0 1 = cc in absurd (omega arith))
     (λ a b z. let s = is-missing r store n a b z in let z : ◌≡◌ {A = ℕ} 0 1 = cc in absurd (omega arith))
@@ -42,7 +42,7 @@ module _ (run : Run) where
   abbrev store : List ℕ
   store = (end_of run).store
 
-  fits : slotFits r.head.slot ≡ true
+  fits : slot_fits r.head.slot ≡ true
   fits = slot-fits r store (known run).sound
 
   facts : Ruled r
@@ -60,18 +60,18 @@ module _ (run : Run) where
     holds c e = subst (Holds r n) e one.holds
 
     -- held, with something missing below it or nothing
-    told-held : IsHeld r n → (one.the ≡ isReady) ⊎ (one.the ≡ behindGap)
+    told-held : IsHeld r n → (one.the ≡ is_ready) ⊎ (one.the ≡ behind_gap)
     told-held i =
         case
-        (λ (g : smallestMissing r < n). inr (one.only behindGap (i, (smallestMissing r, g, is-smallest r facts (omega (arith, i.seen))))))
-        (λ (g : smallestMissing r < n → ⊥). inl (one.only isReady (i, λ m a. none_below r facts m (omega arith))))
-        (dec_lt (smallestMissing r) n)
+        (λ (g : smallest_missing r < n). inr (one.only behind_gap (i, (smallest_missing r, g, is-smallest r facts (omega (arith, i.seen))))))
+        (λ (g : smallest_missing r < n → ⊥). inl (one.only is_ready (i, λ m a. none_below r facts m (omega arith))))
+        (dec_lt (smallest_missing r) n)
 
-    held-so : IsHeld r n → Held run n
-    held-so i = (heldBytes r.marks r.head.slot store n, is-held r store n i.new i.seen (λ z. omega (arith, i.full)))
+    held_so : IsHeld r n → Held run n
+    held_so i = (held_bytes r.marks r.head.slot store n, is-held r store n i.new i.seen (λ z. omega (arith, i.full)))
 
-    taken-so : Holds r n wasTaken → Taken run n
-    taken-so h =
+    taken_so : Holds r n was_taken → Taken run n
+    taken_so h =
         let t = (known run).taken-all n (omega (arith, h.0, (known run).start_is)) h.1 in
         (t.0, t.1)
 
@@ -81,35 +81,35 @@ module _ (run : Run) where
         record {
           the = one.the;
           told = one.told;
-          below-is = (λ e. omega (arith, holds belowStart e, k.start_is), λ h. one.only belowStart (omega (arith, k.start_is)));
+          below-is = (λ e. omega (arith, holds below_start e, k.start_is), λ h. one.only below_start (omega (arith, k.start_is)));
           taken_is = (
-            λ e. taken-so (holds wasTaken e),
-            λ t. let o = k.taken-only n t.0 t.1 in one.only wasTaken (omega (arith, o.0, k.start_is), o.1),
+            λ e. taken_so (holds was_taken e),
+            λ t. let o = k.taken-only n t.0 t.1 in one.only was_taken (omega (arith, o.0, k.start_is), o.1),
           );
           held-is = (
-            λ e. ⊎_elim (λ p. held-so (holds isReady p).0) (λ p. held-so (holds behindGap p).0) e,
+            λ e. ⊎_elim (λ p. held_so (holds is_ready p).0) (λ p. held_so (holds behind_gap p).0) e,
             λ h. told-held (is_within r store n h.0 h.1),
           );
           missing-is = (
             λ e.
-                let h = holds neverCame e in
+                let h = holds never_came e in
                 let l = lacks r n h in
                 let a : run.s.0 < n = omega (arith, l.new, k.next-is) in
-                let b : n ≤ highestAccepted run = omega (arith, l.seen, k.highest-is) in
-                (a, b, ((nothing-lost run).missing-is n a b).0 h),
-            λ h. one.only neverCame (((nothing-lost run).missing-is n h.0 h.1).1 h.2),
+                let b : n ≤ highest_accepted run = omega (arith, l.seen, k.highest-is) in
+                (a, b, ((nothing_lost run).missing-is n a b).0 h),
+            λ h. one.only never_came (((nothing_lost run).missing-is n h.0 h.1).1 h.2),
           );
           unseen-is = (
-            λ e. let h = holds notYetSeen e in (omega (arith, h.0, k.highest-is), omega (arith, h.1, k.next-is)),
-            λ h. one.only notYetSeen (omega (arith, h.0, k.highest-is), omega (arith, h.1, k.next-is)),
+            λ e. let h = holds not_yet_seen e in (omega (arith, h.0, k.highest-is), omega (arith, h.1, k.next-is)),
+            λ h. one.only not_yet_seen (omega (arith, h.0, k.highest-is), omega (arith, h.1, k.next-is)),
           );
-          beyond-is = (λ e. omega (arith, holds beyondSpan e, k.next-is), λ h. one.only beyondSpan (omega (arith, k.next-is)));
+          beyond_is = (λ e. omega (arith, holds beyond_span e, k.next-is), λ h. one.only beyond_span (omega (arith, k.next-is)));
         }
 
   -- at the end of every run
-  pub agrees-throughout : AgreesThroughout run
-  agrees-throughout = record {
+  pub agrees_throughout : AgreesThroughout run
+  agrees_throughout = record {
     start-kept = (known run).start_is;
     agrees = agreed;
-    last-is = λ number e. sym (why-last r number (known run).sound.keeps fits e);
+    last_number_is = λ number e. sym (why_last r number (known run).sound.keeps fits e);
   }

@@ -2,22 +2,22 @@
 use mathlib.Core.Path.{◌≡◌, refl}
 use mathlib.Core.List.{[], ◌∷◌}
 use Rattle.terms.specs.Answers.{values}
-use Rattle.receiver_state.specs.Rules.{rulesOf, slotFits, sizesFit}
-use Rattle.receiver_state.specs.Start.{startSaid}
-use Rattle.receiver_calls.specs.Accept.{acceptSaid, entering, acceptOf}
-use Rattle.receiver_calls.specs.Take.{takeSaid, passing, take_of}
-use Rattle.receiver_why.specs.Reasons.{firstMissing, case_of, whyOf}
-use Rattle.receiver_runs.specs.Runs.{historyOf, end_of}
-use Rattle.receiver_worked.specs.Example.{seq, gapped, filled_in, answeredIn, inGapped, inFilledIn}
+use Rattle.receiver_state.specs.Rules.{rules_of, slot_fits, sizes_fit}
+use Rattle.receiver_state.specs.Start.{start_said}
+use Rattle.receiver_calls.specs.Accept.{accept_said, entering, accept_of}
+use Rattle.receiver_calls.specs.Take.{take_said, passing, take_of}
+use Rattle.receiver_why.specs.Reasons.{first_missing, case_of, why_of}
+use Rattle.receiver_runs.specs.Runs.{history_of, end_of}
+use Rattle.receiver_worked.specs.Example.{seq, gapped, filled_in, answered_in, in_gapped, in_filled_in}
 
-pub gapped-happens : answeredIn (historyOf gapped) ≡ inGapped
-unfolding rulesOf slotFits sizesFit startSaid acceptSaid entering acceptOf takeSaid passing take_of
-gapped-happens = refl
+pub gapped_happens : answered_in (history_of gapped) ≡ in_gapped
+unfolding rules_of slot_fits sizes_fit start_said accept_said entering accept_of take_said passing take_of
+gapped_happens = refl
 
-pub filled-in-happens : answeredIn (historyOf filled_in) ≡ inFilledIn
-unfolding rulesOf slotFits sizesFit startSaid acceptSaid entering acceptOf takeSaid passing take_of
-filled-in-happens = refl
+pub filled_in_happens : answered_in (history_of filled_in) ≡ in_filled_in
+unfolding rules_of slot_fits sizes_fit start_said accept_said entering accept_of take_said passing take_of
+filled_in_happens = refl
 
-pub why-2 : whyOf (end_of gapped).state (seq 2) ≡ values (5 ∷ 1 ∷ [])
-unfolding rulesOf slotFits sizesFit startSaid acceptSaid entering acceptOf takeSaid passing take_of firstMissing case_of whyOf
-why-2 = refl
+pub why_2 : why_of (end_of gapped).state (seq 2) ≡ values (5 ∷ 1 ∷ [])
+unfolding rules_of slot_fits sizes_fit start_said accept_said entering accept_of take_said passing take_of first_missing case_of why_of
+why_2 = refl

@@ -3,8 +3,8 @@
 use Rattle.std.specs.Prelude.{ℕ, refl, List, [], ◌∷◌, replicate}
 use Rattle.terms.specs.declared.SeqNo.{SeqNo}
 use Rattle.terms.specs.Answers.{Said, refusal, values}
-use Rattle.receiver_state.specs.Rules.{slotFits, sizesFit}
-use Rattle.receiver_state.specs.Start.{startSaid}
+use Rattle.receiver_state.specs.Rules.{slot_fits, sizes_fit}
+use Rattle.receiver_state.specs.Start.{start_said}
 use Rattle.receiver_runs.specs.Runs.{Event, Run, accept, take}
 
 abbrev pub seq : ℕ → SeqNo
@@ -12,7 +12,7 @@ seq n = record { 0 = n }
 
 -- started after 0, with slots of one byte
 abbrev pub gapped : Run
-unfolding slotFits sizesFit startSaid
+unfolding slot_fits sizes_fit start_said
 gapped = record {
   s = seq 0;
   slot = 1;
@@ -23,7 +23,7 @@ gapped = record {
 }
 
 abbrev pub filled_in : Run
-unfolding slotFits sizesFit startSaid
+unfolding slot_fits sizes_fit start_said
 filled_in = record {
   s = seq 0;
   slot = 1;
@@ -38,21 +38,21 @@ pub record Answered : Type 0 where
   pub says : Said
   pub left : List ℕ
 
-abbrev pub answeredIn : List Event → List Answered
-answeredIn [] = []
-answeredIn (e ∷ rest) = record { says = e.answered; left = e.output } ∷ answeredIn rest
+abbrev pub answered_in : List Event → List Answered
+answered_in [] = []
+answered_in (e ∷ rest) = record { says = e.answered; left = e.output } ∷ answered_in rest
 
 -- the repeat is refused, and nothing is ready
-abbrev pub inGapped : List Answered
-inGapped =
+abbrev pub in_gapped : List Answered
+in_gapped =
     record { says = values []; left = [] } ∷
     record { says = refusal 15; left = [] } ∷
     record { says = refusal 17; left = 9 ∷ [] } ∷
     []
 
 -- 1 is taken with its byte, and 2 with that of the first packet of its number
-abbrev pub inFilledIn : List Answered
-inFilledIn =
+abbrev pub in_filled_in : List Answered
+in_filled_in =
     record { says = values []; left = [] } ∷
     record { says = refusal 15; left = [] } ∷
     record { says = values []; left = [] } ∷

@@ -6,38 +6,38 @@ use native.Mathlib.Omega.{arith}
 use Rattle.terms.proofs.Numbers.{number-one}
 use Rattle.terms.proofs.Determined.{determined, said-one}
 use Rattle.receiver_state.specs.declared.Receiver.{Receiver}
-use Rattle.sender_state.specs.Answers.{saidTally}
+use Rattle.sender_state.specs.Answers.{said_tally}
 use Rattle.sender_state.specs.declared.Sender.{Sender}
 use Rattle.sender_state.specs.declared.Tally.{Tally}
 use Rattle.sender_state.specs.declared.Tally.TheVariants as Y
-use Rattle.replay_arrival.specs.Arrive.{saidAcks, saidAccept, Arriving, arriveOf, arrived}
+use Rattle.replay_arrival.specs.Arrive.{said_acks, said_accept, Arriving, arrive_of, arrived}
 use Rattle.replay_arrival.specs.declared.AcksTold.{AcksTold}
 use Rattle.replay_arrival.specs.declared.AcksTold.TheVariants as A
 use Rattle.replay_arrival.specs.declared.AcceptTold.{AcceptTold}
 use Rattle.replay_arrival.specs.declared.AcceptTold.TheVariants as B
 use Rattle.replay_arrival.specs.declared.Arrived.{Arrived}
 
-pub tally-one : (a b : Tally) → saidTally a ≡ saidTally b → a ≡ b
-tally-one (Y.Count m) (Y.Count n) e = ap Y.Count (cc)
-tally-one (Y.Count m) (Y.Refused y) e = let z : ◌≡◌ {A = ℕ} 0 1 = cc in absurd (omega arith)
-tally-one (Y.Refused x) (Y.Count n) e = let z : ◌≡◌ {A = ℕ} 0 1 = cc in absurd (omega arith)
-tally-one (Y.Refused x) (Y.Refused y) e = ap Y.Refused (number-one x y (cc))
+pub tally_one : (a b : Tally) → said_tally a ≡ said_tally b → a ≡ b
+tally_one (Y.Count m) (Y.Count n) e = ap Y.Count (cc)
+tally_one (Y.Count m) (Y.Refused y) e = let z : ◌≡◌ {A = ℕ} 0 1 = cc in absurd (omega arith)
+tally_one (Y.Refused x) (Y.Count n) e = let z : ◌≡◌ {A = ℕ} 0 1 = cc in absurd (omega arith)
+tally_one (Y.Refused x) (Y.Refused y) e = ap Y.Refused (number-one x y (cc))
 
-pub acks-one : (a b : AcksTold) → saidAcks a ≡ saidAcks b → a ≡ b
+pub acks-one : (a b : AcksTold) → said_acks a ≡ said_acks b → a ≡ b
 acks-one A.Unasked A.Unasked e = refl
 acks-one A.Unasked (A.Asked y) e = let z : ◌≡◌ {A = ℕ} 0 1 = cc in absurd (omega arith)
 acks-one (A.Asked x) A.Unasked e = let z : ◌≡◌ {A = ℕ} 0 1 = cc in absurd (omega arith)
-acks-one (A.Asked x) (A.Asked y) e = ap A.Asked (tally-one x y (cc))
+acks-one (A.Asked x) (A.Asked y) e = ap A.Asked (tally_one x y (cc))
 
-pub accept-one : (a b : AcceptTold) → saidAccept a ≡ saidAccept b → a ≡ b
+pub accept-one : (a b : AcceptTold) → said_accept a ≡ said_accept b → a ≡ b
 accept-one B.Unasked B.Unasked e = refl
 accept-one B.Unasked (B.Asked y) e = let z : ◌≡◌ {A = ℕ} 0 1 = cc in absurd (omega arith)
 accept-one (B.Asked x) B.Unasked e = let z : ◌≡◌ {A = ℕ} 0 1 = cc in absurd (omega arith)
 accept-one (B.Asked x) (B.Asked y) e = ap B.Asked (said-one x y (cc))
 
-pub arrive-determined : (packet : List ℕ) (clock : ℕ) (receiver : Receiver) (sender : Sender) (store : List ℕ) (a b : Arrived) (x y : List ℕ)
-    → arrived a x ≡ arriveOf packet clock receiver sender store → arrived b y ≡ arriveOf packet clock receiver sender store → (a ≡ b) × (x ≡ y)
-arrive-determined packet clock receiver sender store a b x y p q =
+pub arrive_determined : (packet : List ℕ) (clock : ℕ) (receiver : Receiver) (sender : Sender) (store : List ℕ) (a b : Arrived) (x y : List ℕ)
+    → arrived a x ≡ arrive_of packet clock receiver sender store → arrived b y ≡ arrive_of packet clock receiver sender store → (a ≡ b) × (x ≡ y)
+arrive_determined packet clock receiver sender store a b x y p q =
     let e = determined p q in (
       λ k. record {
         read = said-one a.read b.read (ap (λ (o : Arriving). o.read) e) k;

@@ -4,13 +4,13 @@ use Rattle.std.specs.Prelude.{ℕ, List, [], ◌∷◌, eqb}
 use Rattle.terms.specs.Ladder.{◌when◌else◌}
 use Rattle.terms.specs.Answers.{Saying, Said, refusal, values, said}
 use Rattle.packet_read.specs.Flags.{bit}
-use Rattle.packet_read.specs.Reading.{read_of, nackNumbersOf, payloadOf}
+use Rattle.packet_read.specs.Reading.{read_of, nack_numbers_of, payload_of}
 use Rattle.packet_read.specs.declared.Packet.{Packet}
 use Rattle.receiver_state.specs.declared.Receiver.{Receiver}
-use Rattle.receiver_calls.specs.Accept.{acceptOf}
-use Rattle.sender_state.specs.Answers.{saidTally}
+use Rattle.receiver_calls.specs.Accept.{accept_of}
+use Rattle.sender_state.specs.Answers.{said_tally}
 use Rattle.sender_state.specs.declared.Sender.{Sender}
-use Rattle.sender_acks.specs.Acks.{acksOf}
+use Rattle.sender_acks.specs.Acks.{acks_of}
 use Rattle.replay_arrival.specs.declared.AcksTold.{AcksTold}
 use Rattle.replay_arrival.specs.declared.AcksTold.TheVariants as A
 use Rattle.replay_arrival.specs.declared.AcceptTold.{AcceptTold}
@@ -25,12 +25,12 @@ pub record AcksHere : Type 0 where
   pub sender : Sender
 
 -- with the packet's ack-through and NACKs, and the current clock
-abbrev pub acksHere : Packet → List ℕ → ℕ → Sender → AcksHere
-acksHere p packet clock sender =
+abbrev pub acks_here : Packet → List ℕ → ℕ → Sender → AcksHere
+acks_here p packet clock sender =
     record { told = []; sender = sender } when bit 10 p.flags else
     record {
-      told = (acksOf sender p.ack_through.0 (nackNumbersOf packet) clock).says ∷ [];
-      sender = (acksOf sender p.ack_through.0 (nackNumbersOf packet) clock).state;
+      told = (acks_of sender p.ack_through.0 (nack_numbers_of packet) clock).says ∷ [];
+      sender = (acks_of sender p.ack_through.0 (nack_numbers_of packet) clock).state;
     }
 
 -- what accept says where it is asked, and the receiver and its store after it
@@ -39,13 +39,13 @@ pub record AcceptHere : Type 0 where
   pub receiver : Receiver
   pub store : List ℕ
 
-abbrev pub acceptHere : Packet → List ℕ → Receiver → List ℕ → AcceptHere
-acceptHere p packet receiver store =
+abbrev pub accept_here : Packet → List ℕ → Receiver → List ℕ → AcceptHere
+accept_here p packet receiver store =
     record { told = []; receiver = receiver; store = store } when eqb p.seq_nro.0 0 else
     record {
-      told = (acceptOf receiver p.seq_nro (payloadOf packet) store).says ∷ [];
-      receiver = (acceptOf receiver p.seq_nro (payloadOf packet) store).state;
-      store = (acceptOf receiver p.seq_nro (payloadOf packet) store).lent;
+      told = (accept_of receiver p.seq_nro (payload_of packet) store).says ∷ [];
+      receiver = (accept_of receiver p.seq_nro (payload_of packet) store).state;
+      store = (accept_of receiver p.seq_nro (payload_of packet) store).lent;
     }
 
 -- the answers, in their order, and what is left of both halves and of the receiver's store
@@ -57,37 +57,37 @@ pub record Arriving : Type 0 where
   pub sender : Sender
   pub store : List ℕ
 
-abbrev pub arrivesBy : Saying Packet → List ℕ → ℕ → Receiver → Sender → List ℕ → Arriving
+abbrev pub arrives_by : Saying Packet → List ℕ → ℕ → Receiver → Sender → List ℕ → Arriving
 -- a packet that cannot be read does nothing
-arrivesBy (refusal number) packet clock receiver sender store =
+arrives_by (refusal number) packet clock receiver sender store =
     record { read = refusal number; acks = []; accept = []; receiver = receiver; sender = sender; store = store }
 -- whatever acks says, accept is asked
-arrivesBy (values p) packet clock receiver sender store = record {
+arrives_by (values p) packet clock receiver sender store = record {
   read = values [];
-  acks = (acksHere p packet clock sender).told;
-  accept = (acceptHere p packet receiver store).told;
-  receiver = (acceptHere p packet receiver store).receiver;
-  sender = (acksHere p packet clock sender).sender;
-  store = (acceptHere p packet receiver store).store;
+  acks = (acks_here p packet clock sender).told;
+  accept = (accept_here p packet receiver store).told;
+  receiver = (accept_here p packet receiver store).receiver;
+  sender = (acks_here p packet clock sender).sender;
+  store = (accept_here p packet receiver store).store;
 }
 
-unfoldable pub arriveOf : List ℕ → ℕ → Receiver → Sender → List ℕ → Arriving
-arriveOf packet clock receiver sender store = arrivesBy (read_of packet) packet clock receiver sender store
+unfoldable pub arrive_of : List ℕ → ℕ → Receiver → Sender → List ℕ → Arriving
+arrive_of packet clock receiver sender store = arrives_by (read_of packet) packet clock receiver sender store
 
 -- results of the code, as an outcome: an answer that was not asked for is none
-abbrev pub saidAcks : AcksTold → List Said
-saidAcks A.Unasked = []
-saidAcks (A.Asked tally) = saidTally tally ∷ []
+abbrev pub said_acks : AcksTold → List Said
+said_acks A.Unasked = []
+said_acks (A.Asked tally) = said_tally tally ∷ []
 
-abbrev pub saidAccept : AcceptTold → List Said
-saidAccept B.Unasked = []
-saidAccept (B.Asked answer) = said answer ∷ []
+abbrev pub said_accept : AcceptTold → List Said
+said_accept B.Unasked = []
+said_accept (B.Asked answer) = said answer ∷ []
 
-abbrev pub ackedHere : AckedHere → AcksHere
-ackedHere a = record { told = saidAcks a.told; sender = a.sender }
+abbrev pub acked_here : AckedHere → AcksHere
+acked_here a = record { told = said_acks a.told; sender = a.sender }
 
-abbrev pub acceptedHere : AcceptedHere → List ℕ → AcceptHere
-acceptedHere a store = record { told = saidAccept a.told; receiver = a.receiver; store = store }
+abbrev pub accepted_here : AcceptedHere → List ℕ → AcceptHere
+accepted_here a store = record { told = said_accept a.told; receiver = a.receiver; store = store }
 
 abbrev pub arrived : Arrived → List ℕ → Arriving
-arrived a store = record { read = said a.read; acks = saidAcks a.acks; accept = saidAccept a.accept; receiver = a.receiver; sender = a.sender; store = store }
+arrived a store = record { read = said a.read; acks = said_acks a.acks; accept = said_accept a.accept; receiver = a.receiver; sender = a.sender; store = store }

@@ -2,9 +2,9 @@
 // its payload unless its number is 0. Ports the order of `on_packet`, which was cut from the source: document 02 decides it.
 ghost use Rattle.std.specs.Prelude.{◌≡◌, ◌+◌, ◌*◌, ◌≤◌, length, take};
 ghost use Rattle.terms.specs.Answers.{values};
-ghost use Rattle.wire.specs.BigEndian.{numbersAt};
-ghost use Rattle.packet_read.specs.Reading.{read_of, nackCount};
-ghost use Rattle.replay_arrival.specs.Arrive.{acksHere, acceptHere, arriveOf, ackedHere, acceptedHere, arrived};
+ghost use Rattle.wire.specs.BigEndian.{numbers_at};
+ghost use Rattle.packet_read.specs.Reading.{read_of, nack_count};
+ghost use Rattle.replay_arrival.specs.Arrive.{acks_here, accept_here, arrive_of, acked_here, accepted_here, arrived};
 
 use packet_read::{Packet, Reading};
 use receiver_state::Receiver;
@@ -49,8 +49,8 @@ pub struct Arrived {
 
 // The packet's NACKs as numbers, at the front of those lent: how many.
 fn nack_numbers(packet: &[u8], numbers: &mut [u32]) -> usize
-    requires { (22 + 4 * nackCount packet.now ≤ length packet.now) × (length numbers.old ≡ 255) }
-    ensures { (result ≤ 255) × (take result numbers.new ≡ numbersAt 4 (nackCount packet.now) 17 packet.now) }
+    requires { (22 + 4 * nack_count packet.now ≤ length packet.now) × (length numbers.old ≡ 255) }
+    ensures { (result ≤ 255) × (take result numbers.new ≡ numbers_at 4 (nack_count packet.now) 17 packet.now) }
 {
     let count = wire::be8(packet, 16) as usize;
     let mut i = 0;
@@ -64,7 +64,7 @@ fn nack_numbers(packet: &[u8], numbers: &mut [u32]) -> usize
 // acks, unless bit 10 says that there are none.
 fn acks_here(p: Packet, packet: &[u8], clock: u64, sender: Sender) -> AckedHere
     requires { read_of packet.now ≡ values p }
-    ensures { ackedHere result ≡ acksHere p packet.now clock sender }
+    ensures { acked_here result ≡ acks_here p packet.now clock sender }
 {
     if packet_read::flags::has(p.flags, 1024) {
         return AckedHere {
@@ -86,7 +86,7 @@ fn acks_here(p: Packet, packet: &[u8], clock: u64, sender: Sender) -> AckedHere
 
 // accept, unless the number is 0.
 fn accept_here(p: Packet, packet: &[u8], receiver: Receiver, store: &mut [u8]) -> AcceptedHere
-    ensures { acceptedHere result store.new ≡ acceptHere p packet.now receiver store.old }
+    ensures { accepted_here result store.new ≡ accept_here p packet.now receiver store.old }
 {
     let number = p.seq_nro;
     if number.0 == 0 {
@@ -112,7 +112,7 @@ pub fn arrive(
     sender: Sender,
     store: &mut [u8],
 ) -> Arrived
-    ensures { arrived result store.new ≡ arriveOf packet.now clock receiver sender store.old }
+    ensures { arrived result store.new ≡ arrive_of packet.now clock receiver sender store.old }
 {
     match packet_read::read(packet) {
         Reading::Refused(why) => Arrived {

@@ -16,33 +16,33 @@ pub record Night : Type 0 where
 abbrev pub ends_with : ℕ → Night
 ends_with why = record { records = []; ends = refusal why }
 
-infixr 30 ◌thenNight◌
+infixr 30 ◌then_night◌
 -- a night with a record before it
-abbrev pub ◌thenNight◌ : Record → Night → Night
-one thenNight rest = record { records = one ∷ rest.records; ends = rest.ends }
+abbrev pub ◌then_night◌ : Record → Night → Night
+one then_night rest = record { records = one ∷ rest.records; ends = rest.ends }
 
 -- a big-endian number of 16 bits at the front
-abbrev pub frontOf16 : List ℕ → ℕ
-frontOf16 bytes = get_or bytes 0 0 * 256 + get_or bytes 1 0
+abbrev pub front_of16 : List ℕ → ℕ
+front_of16 bytes = get_or bytes 0 0 * 256 + get_or bytes 1 0
 
 -- L, S, T
-abbrev pub nightMark : List ℕ
-nightMark = 76 ∷ 83 ∷ 84 ∷ []
+abbrev pub night_mark : List ℕ
+night_mark = 76 ∷ 83 ∷ 84 ∷ []
 
-abbrev pub sameBytes : List ℕ → List ℕ → Bool
-sameBytes [] [] = true
-sameBytes [] (y ∷ ys) = false
-sameBytes (x ∷ xs) [] = false
-sameBytes (x ∷ xs) (y ∷ ys) = eqb x y && sameBytes xs ys
+abbrev pub same_bytes : List ℕ → List ℕ → Bool
+same_bytes [] [] = true
+same_bytes [] (y ∷ ys) = false
+same_bytes (x ∷ xs) [] = false
+same_bytes (x ∷ xs) (y ∷ ys) = eqb x y && same_bytes xs ys
 
 -- a kind 0 is the first record, and no other is; kinds are 0 to 6
-abbrev pub hasPlace : Bool → ℕ → Bool
-hasPlace isFirst kind = eqb kind 0 when isFirst else leb 1 kind && leb kind 6
+abbrev pub has_place : Bool → ℕ → Bool
+has_place is_first kind = eqb kind 0 when is_first else leb 1 kind && leb kind 6
 
 -- how long the data of a kind is: 28 bytes of both ids, s, first number, S, C and K; 8 of a clock; one of a path answer; none of a send or a take; any of
 -- a packet, and of bytes submitted
-abbrev pub sizeFits : ℕ → ℕ → Bool
-sizeFits kind size =
+abbrev pub size_fits : ℕ → ℕ → Bool
+size_fits kind size =
     eqb size 28 when eqb kind 0 else
     eqb size 8 when eqb kind 3 else
     eqb size 1 when eqb kind 4 else
@@ -50,30 +50,30 @@ sizeFits kind size =
     true
 
 -- and a path answer is 0 or 1
-abbrev pub dataFits : ℕ → List ℕ → Bool
-dataFits kind bytes = sizeFits kind (length bytes) && (leb (get_or bytes 0 0) 1 || not (eqb kind 4))
+abbrev pub data_fits : ℕ → List ℕ → Bool
+data_fits kind bytes = size_fits kind (length bytes) && (leb (get_or bytes 0 0) 1 || not (eqb kind 4))
 
--- The records in these bytes, of which there are fewer than the first number; isFirst tells whether no record came before.
-abbrev pub recordsIn : ℕ → Bool → List ℕ → Night
-recordsIn zero isFirst bytes = ends_with 29
+-- The records in these bytes, of which there are fewer than the first number; is_first tells whether no record came before.
+abbrev pub records_in : ℕ → Bool → List ℕ → Night
+records_in zero is_first bytes = ends_with 29
 -- no record at all is 29, and else the file is whole
-recordsIn (suc fewer) isFirst [] = record { records = []; ends = refusal 29 when isFirst else values [] }
-recordsIn (suc fewer) isFirst (kind ∷ rest) =
+records_in (suc fewer) is_first [] = record { records = []; ends = refusal 29 when is_first else values [] }
+records_in (suc fewer) is_first (kind ∷ rest) =
     -- unknown kind, kind 0 repeated or not first: told by the kind byte alone
-    ends_with 28 when not (hasPlace isFirst kind) else
+    ends_with 28 when not (has_place is_first kind) else
     -- cut record: its length, or its data
     ends_with 29 when ltb (length rest) 2 else
-    ends_with 29 when ltb (length (drop 2 rest)) (frontOf16 rest) else
+    ends_with 29 when ltb (length (drop 2 rest)) (front_of16 rest) else
     -- data that does not fit its kind
-    ends_with 29 when not (dataFits kind (take (frontOf16 rest) (drop 2 rest))) else
-    (record { kind = kind; bytes = take (frontOf16 rest) (drop 2 rest) } thenNight recordsIn fewer false (drop (frontOf16 rest) (drop 2 rest)))
+    ends_with 29 when not (data_fits kind (take (front_of16 rest) (drop 2 rest))) else
+    (record { kind = kind; bytes = take (front_of16 rest) (drop 2 rest) } then_night records_in fewer false (drop (front_of16 rest) (drop 2 rest)))
 
 -- the whole file
-unfoldable pub nightOf : List ℕ → Night
-nightOf file =
+unfoldable pub night_of : List ℕ → Night
+night_of file =
     -- wrong mark, or a file under three bytes
-    ends_with 26 when not (sameBytes (take 3 file) nightMark) else
+    ends_with 26 when not (same_bytes (take 3 file) night_mark) else
     -- other version, or a file under five bytes
     ends_with 27 when ltb (length file) 5 else
-    ends_with 27 when not (eqb (frontOf16 (drop 3 file)) 1) else
-    recordsIn (length file) true (drop 5 file)
+    ends_with 27 when not (eqb (front_of16 (drop 3 file)) 1) else
+    records_in (length file) true (drop 5 file)

@@ -8,67 +8,67 @@ use borrow.Author.Tests.{eq-eqb, ne_eqb, le-leb, lt-leb}
 use lib.Dec.{leb, eqb}
 use lib.ListN.{length, take, drop, get_or, length-append}
 use lib.Seq.{append_snoc, drop-cons}
-use Rattle.portions.specs.Stops.{OneCall, untilGiven}
-use Rattle.replay_format.specs.Night.{Record, sizeFits, dataFits}
-use Rattle.replay_format.specs.Bytes.{Known, inData, beforeRecord, ended, readNightByte}
+use Rattle.portions.specs.Stops.{OneCall, until_given}
+use Rattle.replay_format.specs.Night.{Record, size_fits, data_fits}
+use Rattle.replay_format.specs.Bytes.{Known, in_data, before_record, ended, read_night_byte}
 
 -- reading that has ended
-pub until-ended : (why : ℕ) (bytes : List ℕ) → untilGiven readNightByte (ended why) bytes ≡ record { gave = []; used = length bytes; state = ended why }
-until-ended why [] = refl
-until-ended why (b ∷ rest) = rw (until-ended why rest)
+pub until_ended : (why : ℕ) (bytes : List ℕ) → until_given read_night_byte (ended why) bytes ≡ record { gave = []; used = length bytes; state = ended why }
+until_ended why [] = refl
+until_ended why (b ∷ rest) = rw (until_ended why rest)
 
 module _ (kind size : ℕ) where
   -- fewer bytes than the data lacks
-  pub data-short : (there bytes : List ℕ) → length there + length bytes < size
-      → untilGiven readNightByte (inData kind size there) bytes ≡ record { gave = []; used = length bytes; state = inData kind size (there ++ bytes) }
-  data-short there [] h = rw (append-nil there)
-  data-short there (b ∷ bytes) h =
+  pub data_short : (there bytes : List ℕ) → length there + length bytes < size
+      → until_given read_night_byte (in_data kind size there) bytes ≡ record { gave = []; used = length bytes; state = in_data kind size (there ++ bytes) }
+  data_short there [] h = rw (append-nil there)
+  data_short there (b ∷ bytes) h =
       let l = length-append there (b ∷ []) in
-      rw (ne_eqb (suc (length there)) size (λ q. omega arith), data-short (there ++ (b ∷ [])) bytes (omega arith), append_snoc there b bytes)
+      rw (ne_eqb (suc (length there)) size (λ q. omega arith), data_short (there ++ (b ∷ [])) bytes (omega arith), append_snoc there b bytes)
 
   -- as many, and any others behind them: the data fits its kind
-  pub data-full : (there bytes : List ℕ) (n : ℕ) → length there + n ≡ size → 0 < n → n ≤ length bytes → dataFits kind (there ++ take n bytes) ≡ true
-      → untilGiven readNightByte (inData kind size there) bytes
-      ≡ record { gave = record { kind = kind; bytes = there ++ take n bytes } ∷ []; used = n; state = beforeRecord false }
-  data-full there bytes zero e low high fits = absurd (omega arith)
-  data-full there [] (suc n) e low high fits = absurd (omega arith)
-  data-full there (b ∷ rest) (suc zero) e low high fits = rw (eq-eqb (suc (length there)) size (omega arith), fits)
-  data-full there (b ∷ rest) (suc (suc n)) e low high fits =
+  pub data_full : (there bytes : List ℕ) (n : ℕ) → length there + n ≡ size → 0 < n → n ≤ length bytes → data_fits kind (there ++ take n bytes) ≡ true
+      → until_given read_night_byte (in_data kind size there) bytes
+      ≡ record { gave = record { kind = kind; bytes = there ++ take n bytes } ∷ []; used = n; state = before_record false }
+  data_full there bytes zero e low high fits = absurd (omega arith)
+  data_full there [] (suc n) e low high fits = absurd (omega arith)
+  data_full there (b ∷ rest) (suc zero) e low high fits = rw (eq-eqb (suc (length there)) size (omega arith), fits)
+  data_full there (b ∷ rest) (suc (suc n)) e low high fits =
       let l = length-append there (b ∷ []) in
       let s = append_snoc there b (take (suc n) rest) in
       rw (
         ne_eqb (suc (length there)) size (λ q. omega arith),
-        data-full (there ++ (b ∷ [])) rest (suc n) (omega arith) (omega arith) (omega arith) (ap (dataFits kind) s ∙ fits),
+        data_full (there ++ (b ∷ [])) rest (suc n) (omega arith) (omega arith) (omega arith) (ap (data_fits kind) s ∙ fits),
         append_snoc there b (take (suc n) rest),
       )
 
   -- or it does not
-  pub data-unfit : (there bytes : List ℕ) (n : ℕ) → length there + n ≡ size → 0 < n → n ≤ length bytes → dataFits kind (there ++ take n bytes) ≡ false
-      → untilGiven readNightByte (inData kind size there) bytes ≡ record { gave = []; used = length bytes; state = ended 29 }
-  data-unfit there bytes zero e low high fits = absurd (omega arith)
-  data-unfit there [] (suc n) e low high fits = absurd (omega arith)
-  data-unfit there (b ∷ rest) (suc zero) e low high fits = rw (eq-eqb (suc (length there)) size (omega arith), fits, until-ended 29 rest)
-  data-unfit there (b ∷ rest) (suc (suc n)) e low high fits =
+  pub data_unfit : (there bytes : List ℕ) (n : ℕ) → length there + n ≡ size → 0 < n → n ≤ length bytes → data_fits kind (there ++ take n bytes) ≡ false
+      → until_given read_night_byte (in_data kind size there) bytes ≡ record { gave = []; used = length bytes; state = ended 29 }
+  data_unfit there bytes zero e low high fits = absurd (omega arith)
+  data_unfit there [] (suc n) e low high fits = absurd (omega arith)
+  data_unfit there (b ∷ rest) (suc zero) e low high fits = rw (eq-eqb (suc (length there)) size (omega arith), fits, until_ended 29 rest)
+  data_unfit there (b ∷ rest) (suc (suc n)) e low high fits =
       let l = length-append there (b ∷ []) in
       let s = append_snoc there b (take (suc n) rest) in
       rw (
         ne_eqb (suc (length there)) size (λ q. omega arith),
-        data-unfit (there ++ (b ∷ [])) rest (suc n) (omega arith) (omega arith) (omega arith) (ap (dataFits kind) s ∙ fits),
+        data_unfit (there ++ (b ∷ [])) rest (suc n) (omega arith) (omega arith) (omega arith) (ap (data_fits kind) s ∙ fits),
       )
 
   -- which data fits: of the right length, and a path answer is 0 or 1
-  pub other_fits : (bytes : List ℕ) → length bytes ≡ size → sizeFits kind size ≡ true → (kind ≡ 4 → ⊥) → dataFits kind bytes ≡ true
+  pub other_fits : (bytes : List ℕ) → length bytes ≡ size → size_fits kind size ≡ true → (kind ≡ 4 → ⊥) → data_fits kind bytes ≡ true
   other_fits bytes l fits n = rw (l, fits, ne_eqb kind 4 n) (go (leb (get_or bytes 0 0) 1))
     where
       go : (t : Bool) → (t || true) ≡ true
       go true = refl
       go false = refl
 
-  pub path-fits : (byte : ℕ) → sizeFits kind size ≡ true → size ≡ 1 → byte ≤ 1 → dataFits kind (byte ∷ []) ≡ true
-  path-fits byte fits one small = let f : sizeFits kind 1 ≡ true = rw one at fits in rw (f, le-leb byte 1 small)
+  pub path_fits : (byte : ℕ) → size_fits kind size ≡ true → size ≡ 1 → byte ≤ 1 → data_fits kind (byte ∷ []) ≡ true
+  path_fits byte fits one small = let f : size_fits kind 1 ≡ true = rw one at fits in rw (f, le-leb byte 1 small)
 
-  pub path-unfit : (byte : ℕ) → sizeFits kind size ≡ true → size ≡ 1 → kind ≡ 4 → 1 < byte → dataFits kind (byte ∷ []) ≡ false
-  path-unfit byte fits one path large = let f : sizeFits kind 1 ≡ true = rw one at fits in rw (f, lt-leb byte 1 large, eq-eqb kind 4 path)
+  pub path_unfit : (byte : ℕ) → size_fits kind size ≡ true → size ≡ 1 → kind ≡ 4 → 1 < byte → data_fits kind (byte ∷ []) ≡ false
+  path_unfit byte fits one path large = let f : size_fits kind 1 ≡ true = rw one at fits in rw (f, lt-leb byte 1 large, eq-eqb kind 4 path)
 
 -- one byte of the portion
 pub one_byte : (portion : List ℕ) (at : ℕ) → at < length portion → take 1 (drop at portion) ≡ get_or portion at 0 ∷ []

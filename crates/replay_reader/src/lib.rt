@@ -3,12 +3,12 @@
 ghost use Rattle.std.specs.Prelude.{◌≡◌, true, ◌≤◌, ◌<◌, ◌+◌, ◌*◌, length, take, drop};
 ghost use Rattle.terms.specs.Answers.{said};
 ghost use Rattle.portions.specs.Fold.{quiet};
-ghost use Rattle.portions.specs.Stops.{untilGiven, usedBefore};
-ghost use Rattle.replay_format.specs.Night.{hasPlace, sizeFits};
-ghost use Rattle.replay_format.specs.Bytes.{beforeRecord, inLength, inData, headByte, readNightByte};
-ghost use Rattle.replay_reader.specs.Rules.{known_of, readerRules, nightStart};
-ghost use Rattle.replay_reader.specs.ReadOn.{onwardBy, readOnOf, onward};
-ghost use Rattle.replay_reader.specs.Finish.{finishOf};
+ghost use Rattle.portions.specs.Stops.{until_given, used_before};
+ghost use Rattle.replay_format.specs.Night.{has_place, size_fits};
+ghost use Rattle.replay_format.specs.Bytes.{before_record, in_length, in_data, head_byte, read_night_byte};
+ghost use Rattle.replay_reader.specs.Rules.{known_of, reader_rules, night_start};
+ghost use Rattle.replay_reader.specs.ReadOn.{onward_by, read_on_of, onward};
+ghost use Rattle.replay_reader.specs.Finish.{finish_of};
 ghost use Rattle.replay_reader.specs.Steps.{StepsTo};
 
 use terms::{Answer, Refusal};
@@ -71,7 +71,7 @@ fn kind_of(x: u8) -> u32
 
 // Whether a kind may stand here: 0 as the first record, 1 to 6 as any other.
 pub fn has_place(first: bool, kind: u32) -> bool
-    ensures { result ≡ hasPlace first kind }
+    ensures { result ≡ has_place first kind }
 {
     if first {
         return kind == 0;
@@ -81,7 +81,7 @@ pub fn has_place(first: bool, kind: u32) -> bool
 
 // Whether a kind's data may be so long.
 pub fn size_fits(kind: u32, size: usize) -> bool
-    ensures { result ≡ sizeFits kind size }
+    ensures { result ≡ size_fits kind size }
 {
     if kind == 0 {
         return size == 28;
@@ -100,7 +100,7 @@ pub fn size_fits(kind: u32, size: usize) -> bool
 
 // A reader at the file's start.
 pub fn start() -> NightReader
-    ensures { result ≡ nightStart }
+    ensures { result ≡ night_start }
 {
     NightReader {
         phase: 0,
@@ -112,7 +112,7 @@ pub fn start() -> NightReader
 
 // Whether a reader keeps its rules: what every call asks first.
 fn keeps_rules(r: NightReader) -> bool
-    ensures { result ≡ readerRules r }
+    ensures { result ≡ reader_rules r }
 {
     if r.phase == 0 {
         return (r.kind == 0) & ((r.size == 0) & (r.there <= 4));
@@ -139,7 +139,7 @@ fn keeps_rules(r: NightReader) -> bool
 // A byte of mark and version, of which so many were there.
 fn head_byte(there: usize, byte: u8) -> Stepped
     requires { there ≤ 4 }
-    ensures { StepsTo result (λ _. quiet (headByte there byte)) }
+    ensures { StepsTo result (λ _. quiet (head_byte there byte)) }
 {
     if there < 3 {
         if byte != MARK[there] {
@@ -179,7 +179,7 @@ fn head_byte(there: usize, byte: u8) -> Stepped
 
 // The kind byte of a record.
 fn kind_byte(first: bool, byte: u8) -> Stepped
-    ensures { StepsTo result (λ _. readNightByte (beforeRecord first) byte) }
+    ensures { StepsTo result (λ _. read_night_byte (before_record first) byte) }
 {
     let kind = kind_of(byte);
     if !has_place(first, kind) {
@@ -197,7 +197,7 @@ fn kind_byte(first: bool, byte: u8) -> Stepped
 // The low byte of a record's length.
 fn length_byte(kind: u32, high: usize, byte: u8) -> Stepped
     requires { (kind ≤ 6) × (high < 256) }
-    ensures { StepsTo result (λ _. readNightByte (inLength kind high) byte) }
+    ensures { StepsTo result (λ _. read_night_byte (in_length kind high) byte) }
 {
     let size = high * 256 + wide(byte);
     if !size_fits(kind, size) {
@@ -217,8 +217,8 @@ fn length_byte(kind: u32, high: usize, byte: u8) -> Stepped
 
 // A byte outside a record's data.
 fn byte_read(r: NightReader, byte: u8) -> Stepped
-    requires { (readerRules r ≡ true) × (r.phase < 5) }
-    ensures { StepsTo result (λ buffer. readNightByte (known_of r buffer) byte) }
+    requires { (reader_rules r ≡ true) × (r.phase < 5) }
+    ensures { StepsTo result (λ buffer. read_night_byte (known_of r buffer) byte) }
 {
     if r.phase == 0 {
         return head_byte(r.there, byte);
@@ -253,10 +253,10 @@ fn fill(
     at: usize,
     buffer: &mut [u8],
 ) -> Onward
-    requires { (there < size) × (size ≤ length buffer.old) × (at ≤ length portion.now) × (sizeFits kind size ≡ true) }
+    requires { (there < size) × (size ≤ length buffer.old) × (at ≤ length portion.now) × (size_fits kind size ≡ true) }
     ensures { onward result buffer.new
-        ≡ onwardBy whole buffer.old
-        (usedBefore at (untilGiven readNightByte (inData kind size (take there buffer.old)) (drop at portion.now))) }
+        ≡ onward_by whole buffer.old
+        (used_before at (until_given read_night_byte (in_data kind size (take there buffer.old)) (drop at portion.now))) }
 {
     let lacks = size - there;
     let given = portion.len() - at;
@@ -300,9 +300,9 @@ fn fill(
 
 // What a reader that keeps its rules makes of a portion: byte by byte up to a record's data, and then all of that at once.
 fn go_on(whole: NightReader, portion: &[u8], buffer: &mut [u8]) -> Onward
-    requires { (readerRules whole ≡ true) × (65538 ≤ length buffer.old) }
+    requires { (reader_rules whole ≡ true) × (65538 ≤ length buffer.old) }
     ensures { onward result buffer.new
-        ≡ onwardBy whole buffer.old (untilGiven readNightByte (known_of whole buffer.old) portion.now) }
+        ≡ onward_by whole buffer.old (until_given read_night_byte (known_of whole buffer.old) portion.now) }
 {
     let mut r = whole;
     let mut at = 0;
@@ -347,7 +347,7 @@ fn go_on(whole: NightReader, portion: &[u8], buffer: &mut [u8]) -> Onward
 // Reads on in a portion of the file, of any length, none too. It stops behind the first complete record, whose data then stands at the buffer's front, and the
 // host offers again the bytes that were not used. Refusals: 11, then 10 for a buffer under 65,538 bytes, then 26 to 29 as the bytes come.
 pub fn read_on(reader: NightReader, portion: &[u8], buffer: &mut [u8]) -> Onward
-    ensures { onward result buffer.new ≡ readOnOf reader portion.now buffer.old }
+    ensures { onward result buffer.new ≡ read_on_of reader portion.now buffer.old }
 {
     if !keeps_rules(reader) {
         return Onward {
@@ -368,7 +368,7 @@ pub fn read_on(reader: NightReader, portion: &[u8], buffer: &mut [u8]) -> Onward
 
 // What the end of the file says: 26 or 27 where it came within mark or version, 29 within a record or before the first.
 pub fn finish(reader: NightReader) -> Answer
-    ensures { said result ≡ finishOf reader }
+    ensures { said result ≡ finish_of reader }
 {
     if !keeps_rules(reader) {
         return Answer::Refused(Refusal::StateBroken);

@@ -12,38 +12,38 @@ use Rattle.terms.specs.declared.Refusal.{Refusal}
 use Rattle.terms.specs.Answers.{refusal, values, said}
 use Rattle.terms.specs.declared.Answer.{Answer}
 use Rattle.terms.specs.declared.Answer.TheVariants as A
-use Rattle.sender_state.specs.Table.{◌!◌, isFlying}
+use Rattle.sender_state.specs.Table.{◌!◌, is_flying}
 use Rattle.sender_state.specs.Answers.{Outcome}
 use Rattle.sender_state.specs.Rules.{rules}
 use Rattle.sender_state.specs.declared.Sender.{Sender}
 use Rattle.sender_state.proofs.Facts.{Ruled}
-use Rattle.sender_state.specs.Numbers.{numbersWhere, markedWith}
+use Rattle.sender_state.specs.Numbers.{numbers_where, marked_with}
 use Rattle.sender_acks.specs.Steps.{Flags, Measures}
 use Rattle.sender_state.specs.Steps.{Tidy}
-use Rattle.sender_acks.specs.Acks.{ackedAt, ackedOf, acksRefusal, measuredBy, timedBy, grownBy, freedBy, acksLeave, acksOf}
+use Rattle.sender_acks.specs.Acks.{acked_at, acked_of, acks_refusal, measured_by, timed_by, grown_by, freed_by, acks_leave, acks_of}
 use Rattle.sender_acks.specs.declared.Measured.{Measured}
 use Rattle.sender_state.proofs.Runs.{beyond}
 use Rattle.sender_state.proofs.Search.{tidy}
-use Rattle.sender_acks.proofs.Tables.{flags-are}
+use Rattle.sender_acks.proofs.Tables.{flags_are}
 
 -- past the table nothing is acknowledged
-pub acked-out : (numbers marks : List ℕ) (through : ℕ) (nacks : List ℕ) → length marks ≡ 192 → (i : ℕ) → 192 ≤ i → ackedAt numbers marks through nacks i ≡ false
-acked-out numbers marks through nacks h i a = rw (beyond marks i 0 (omega arith))
+pub acked_out_lem : (numbers marks : List ℕ) (through : ℕ) (nacks : List ℕ) → length marks ≡ 192 → (i : ℕ) → 192 ≤ i → acked_at numbers marks through nacks i ≡ false
+acked_out_lem numbers marks through nacks h i a = rw (beyond marks i 0 (omega arith))
 
 module _ (s : Sender) (row : length s.numbers ≡ 192) (table : length s.marks ≡ 192) (width : s.next.0 ≤ 4294967295) (through : ℕ) (nacks flags : List ℕ)
-    (made : Flags (ackedAt s.numbers s.marks through nacks) flags) where
-  pub flags-same : markedWith 1 flags ≡ ackedAt s.numbers s.marks through nacks
-  flags-same = λ k i. flags-are (ackedAt s.numbers s.marks through nacks) flags made (acked-out s.numbers s.marks through nacks table) i k
+    (made : Flags (acked_at s.numbers s.marks through nacks) flags) where
+  pub flags-same : marked_with 1 flags ≡ acked_at s.numbers s.marks through nacks
+  flags-same = λ k i. flags_are (acked_at s.numbers s.marks through nacks) flags made (acked_out_lem s.numbers s.marks through nacks table) i k
 
   -- a flagged place is in flight
   flagged : (i : ℕ) → flags ! i ≡ 1 → s.marks ! i ≡ 2
   flagged i e =
       eqb-true _ _
-      (and_left (isFlying (s.marks ! i)) _
-      (sym (flags-are (ackedAt s.numbers s.marks through nacks) flags made (acked-out s.numbers s.marks through nacks table) i) ∙ eq-eqb _ _ e))
+      (and_left (is_flying (s.marks ! i)) _
+      (sym (flags_are (acked_at s.numbers s.marks through nacks) flags made (acked_out_lem s.numbers s.marks through nacks table) i) ∙ eq-eqb _ _ e))
 
-  pub tidy-flags : Ruled s → Tidy s.numbers flags 1 s.next.0
-  tidy-flags r =
+  pub tidy_flags : Ruled s → Tidy s.numbers flags 1 s.next.0
+  tidy_flags r =
       let t = tidy s row table width r 2 (omega arith) in
       record {
         row = row;
@@ -56,29 +56,29 @@ module _ (s : Sender) (row : length s.numbers ≡ 192) (table : length s.marks �
       }
 
   pub acks-made : (clock : ℕ) (m : Measured)
-      → Measures (measuredBy s.numbers s.sent s.resent clock) s.timing s.window (numbersWhere s.numbers s.next.0 (markedWith 1 flags)) m
-      → (state : Sender) → state ≡ freedBy s m.timing m.window clock (markedWith 1 flags)
+      → Measures (measured_by s.numbers s.sent s.resent clock) s.timing s.window (numbers_where s.numbers s.next.0 (marked_with 1 flags)) m
+      → (state : Sender) → state ≡ freed_by s m.timing m.window clock (marked_with 1 flags)
       → ◌≡◌ {A = Outcome} (record { says = values (m.count ∷ []); state = state; lent = [] })
-      (record { says = values (length (ackedOf s through nacks) ∷ []); state = acksLeave s through nacks clock; lent = [] })
+      (record { says = values (length (acked_of s through nacks) ∷ []); state = acks_leave s through nacks clock; lent = [] })
   acks-made clock m f state e = rw (e, f.times, f.grows, f.counts) (ap by flags-same) where
     by : (ℕ → Bool) → Outcome
     by gone =
-        let l = numbersWhere s.numbers s.next.0 gone in
+        let l = numbers_where s.numbers s.next.0 gone in
         record {
           says = values (length l ∷ []);
-          state = freedBy s (timedBy (measuredBy s.numbers s.sent s.resent clock) s.timing l) (grownBy s.window l) clock gone;
+          state = freed_by s (timed_by (measured_by s.numbers s.sent s.resent clock) s.timing l) (grown_by s.window l) clock gone;
           lent = [];
         }
 
-module _ (s : Sender) (through : ℕ) (nacks : List ℕ) (clock : ℕ) (answer : Answer) (judged : said answer ≡ acksRefusal s through (length nacks) clock) where
-  pub acks-kept : (why : Refusal) → answer ≡ A.Refused why → ◌≡◌ {A = Outcome} (record { says = refusal (number_of why); state = s; lent = [] }) (acksOf s through nacks clock)
-  unfolding acksOf
-  acks-kept why is = let e : acksRefusal s through (length nacks) clock ≡ refusal (number_of why) = sym judged ∙ ap said is in simp e
+module _ (s : Sender) (through : ℕ) (nacks : List ℕ) (clock : ℕ) (answer : Answer) (judged : said answer ≡ acks_refusal s through (length nacks) clock) where
+  pub acks-kept : (why : Refusal) → answer ≡ A.Refused why → ◌≡◌ {A = Outcome} (record { says = refusal (number_of why); state = s; lent = [] }) (acks_of s through nacks clock)
+  unfolding acks_of
+  acks-kept why is = let e : acks_refusal s through (length nacks) clock ≡ refusal (number_of why) = sym judged ∙ ap said is in simp e
 
-  pub acks-pass : answer ≡ A.Done → ◌≡◌ {A = Outcome} (record { says = values (length (ackedOf s through nacks) ∷ []); state = acksLeave s through nacks clock; lent = [] }) (acksOf s through nacks clock)
-  unfolding acksOf
-  acks-pass is = let e : acksRefusal s through (length nacks) clock ≡ values [] = sym judged ∙ ap said is in simp e
+  pub acks_pass : answer ≡ A.Done → ◌≡◌ {A = Outcome} (record { says = values (length (acked_of s through nacks) ∷ []); state = acks_leave s through nacks clock; lent = [] }) (acks_of s through nacks clock)
+  unfolding acks_of
+  acks_pass is = let e : acks_refusal s through (length nacks) clock ≡ values [] = sym judged ∙ ap said is in simp e
 
   pub acks-rules : answer ≡ A.Done → rules s ≡ true
-  unfolding acksRefusal
+  unfolding acks_refusal
   acks-rules is = not-false (rules s) (passed-rung 11 (not (rules s)) _ [] (sym judged ∙ ap said is)).0

@@ -3,13 +3,13 @@ ghost use Rattle.std.specs.Prelude.{◌≡◌, true, [], ◌∷◌, ◌+◌, ◌
 ghost use Rattle.terms.specs.Ladder.{◌when◌else◌};
 ghost use Rattle.terms.specs.Answers.{values, said};
 ghost use Rattle.sender_state.specs.Rules.{rules};
-ghost use Rattle.timer.specs.Timer.{sampledOf};
-ghost use Rattle.timer.specs.Window.{grownOf};
-ghost use Rattle.sender_state.specs.Table.{oneIf};
-ghost use Rattle.sender_state.specs.Numbers.{numbersWhere, markedWith};
+ghost use Rattle.timer.specs.Timer.{sampled_of};
+ghost use Rattle.timer.specs.Window.{grown_of};
+ghost use Rattle.sender_state.specs.Table.{one_if};
+ghost use Rattle.sender_state.specs.Numbers.{numbers_where, marked_with};
 ghost use Rattle.sender_state.specs.Steps.{Tidy};
 ghost use Rattle.sender_acks.specs.Steps.{Flags, Measures};
-ghost use Rattle.sender_acks.specs.Acks.{isAcked, ackedAt, acksRefusal, measuredBy, freedBy, ackedOf, acksLeave, ackedOut};
+ghost use Rattle.sender_acks.specs.Acks.{is_acked, acked_at, acks_refusal, measured_by, freed_by, acked_of, acks_leave, acked_out};
 
 use super::{Acked, Measured, table};
 use sender_state::{Sender, Tally};
@@ -18,7 +18,7 @@ use timer::Timing;
 
 // 1 where a packet is acknowledged. The NACKs are searched only for a number in flight that ack-through reaches.
 fn acked_flag(number: u32, mark: u32, through: u32, nacks: &[u32]) -> u32
-    ensures { result ≡ oneIf (isAcked through nacks.now number mark) }
+    ensures { result ≡ one_if (is_acked through nacks.now number mark) }
 {
     if mark != 2 {
         return 0;
@@ -40,7 +40,7 @@ fn acked_flags<'a, 'b>(
     nacks: &'b [u32],
 ) -> [u32; 192]
     requires { (length numbers.now ≡ 192) × (length marks.now ≡ 192) }
-    ensures { Flags (ackedAt numbers.now marks.now through nacks.now) result }
+    ensures { Flags (acked_at numbers.now marks.now through nacks.now) result }
 {
     let mut flags = [0u32; 192];
     let mut i = 0;
@@ -77,8 +77,8 @@ fn measure<'a>(
     next: u32,
 ) -> Measured
     requires { Tidy numbers.now flags.now 1 next × (length sent.now ≡ 192) × (length resent.now ≡ 192) }
-    ensures { Measures (measuredBy numbers.now sent.now resent.now clock) timing window
-        (numbersWhere numbers.now next (markedWith 1 flags.now)) result }
+    ensures { Measures (measured_by numbers.now sent.now resent.now clock) timing window
+        (numbers_where numbers.now next (marked_with 1 flags.now)) result }
 {
     let mut m = Measured {
         timing: timing,
@@ -96,7 +96,7 @@ fn measure<'a>(
 
 // The timing with one sample more, unless the packet was sent more than once: an ack may be for its first copy, so its age says nothing.
 fn timed(timing: Timing, sample: u32, resent: u32) -> Timing
-    ensures { result ≡ (timing when eqb resent 1 else sampledOf timing sample) }
+    ensures { result ≡ (timing when eqb resent 1 else sampled_of timing sample) }
 {
     if resent == 1 {
         return timing;
@@ -107,7 +107,7 @@ fn timed(timing: Timing, sample: u32, resent: u32) -> Timing
 // One packet more.
 fn measure_one(m: Measured, sample: u32, resent: u32) -> Measured
     requires { m.count < 4294967295 }
-    ensures { result ≡ record { timing = m.timing when eqb resent 1 else sampledOf m.timing sample; window = grownOf m.window; count = m.count + 1 } }
+    ensures { result ≡ record { timing = m.timing when eqb resent 1 else sampled_of m.timing sample; window = grown_of m.window; count = m.count + 1 } }
 {
     let timing = m.timing;
     let after = timed(timing, sample, resent);
@@ -121,7 +121,7 @@ fn measure_one(m: Measured, sample: u32, resent: u32) -> Measured
 
 // What keeps acks from being done: the first refusal that applies, in document 01's order.
 pub(super) fn judge_acks(s: Sender, through: u32, nack_count: usize, clock: u64) -> Answer
-    ensures { said result ≡ acksRefusal s through nack_count clock }
+    ensures { said result ≡ acks_refusal s through nack_count clock }
 {
     let chunk = s.chunk;
     let count = s.count;
@@ -147,7 +147,7 @@ pub(super) fn judge_acks(s: Sender, through: u32, nack_count: usize, clock: u64)
 
 // The state with new timing and window at a clock, and each flagged place freed.
 fn freed(s: Sender, flags: [u32; 192], timing: Timing, window: u32, clock: u64) -> Sender
-    ensures { result ≡ freedBy s timing window clock (markedWith 1 flags) }
+    ensures { result ≡ freed_by s timing window clock (marked_with 1 flags) }
 {
     let mut numbers = s.numbers;
     table::replace32(&mut numbers, &flags, 0);
@@ -180,9 +180,9 @@ fn freed(s: Sender, flags: [u32; 192], timing: Timing, window: u32, clock: u64) 
 // acks where nothing keeps it from being done.
 pub(super) fn acks_done(s: Sender, through: u32, nacks: &[u32], clock: u64) -> Acked
     requires { rules s ≡ true }
-    ensures { ackedOut result ≡ record {
-      says = values (length (ackedOf s through nacks.now) ∷ []);
-      state = acksLeave s through nacks.now clock;
+    ensures { acked_out result ≡ record {
+      says = values (length (acked_of s through nacks.now) ∷ []);
+      state = acks_leave s through nacks.now clock;
       lent = [];
     } }
 {

@@ -4,7 +4,7 @@ mod acking;
 mod table;
 
 ghost use Rattle.std.specs.Prelude.{◌≡◌};
-ghost use Rattle.sender_acks.specs.Acks.{acksOf, ackedOut};
+ghost use Rattle.sender_acks.specs.Acks.{acks_of, acked_out};
 
 use sender_state::{Sender, Tally};
 use terms::{Answer, SeqNo};
@@ -28,7 +28,7 @@ pub struct Measured {
 // Takes every number at most ack-through and not NACKed out of flight, ascending. Each grows the window, and is measured unless it was
 // sent more than once. Ports `handle_acks`, mended by Karn's rule (RFC 6298, section 3). It leaves the timer.
 pub fn acks(s: Sender, ack_through: SeqNo, nacks: &[u32], clock: u64) -> Acked
-    ensures { ackedOut result ≡ acksOf s ack_through.0 nacks.now clock }
+    ensures { acked_out result ≡ acks_of s ack_through.0 nacks.now clock }
 {
     let through = ack_through.0;
     let answer = acking::judge_acks(s, through, nacks.len(), clock);

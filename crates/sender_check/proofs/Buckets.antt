@@ -11,8 +11,8 @@ use lib.Dec.{eqb}
 use lib.ListN.{length, get_or, set, take, replicate, length-set, length-take, length-replicate}
 use lib.Seq.{get_or-set_same, get_or-set_other, get_or-take}
 use Rattle.terms.specs.Lists.{all}
-use Rattle.terms.proofs.Laws.{case, and_left, and_right, and_both, all_of, or_right, or-of}
-use Rattle.sender_check.specs.Steps.{every, aloneAt}
+use Rattle.terms.proofs.Laws.{case, and_left, and_right, and_both, all_of, or_right, or_of}
+use Rattle.sender_check.specs.Steps.{every, alone_at}
 use Rattle.sender_state.specs.Table.{◌!◌, differs}
 
 -- after i turns: the remainders of the first i numbers are noted, and the flag says that none of these numbers but 0 stood before
@@ -20,12 +20,12 @@ pub record Spreads (numbers seen : List ℕ) (ok : Bool) (i : ℕ) : Type 0 wher
   pub long : length seen ≡ 2048
   pub inside : i ≤ length numbers
   pub noted : (j : ℕ) → j < i → seen ! ((numbers ! j) % 2048) ≡ 1
-  pub alone : ok ≡ true → every i (aloneAt numbers) ≡ true
+  pub alone : ok ≡ true → every i (alone_at numbers) ≡ true
 
 module _ (numbers : List ℕ) where
-  pub spreads-start : Spreads numbers (replicate 2048 0) true 0
+  pub spreads_start : Spreads numbers (replicate 2048 0) true 0
   unfolding every
-  spreads-start = record {
+  spreads_start = record {
     long = length-replicate {A = ℕ} 2048 0;
     inside = omega arith;
     noted = λ j h. absurd (omega arith);
@@ -64,20 +64,20 @@ module _ (numbers : List ℕ) where
         omega (arith, one, z) in
         rw (ne_eqb _ _ o))
 
-    pub spreads-more : Spreads numbers (set seen at 1) (ok && (eqb x 0 || eqb (seen ! at) 0)) (i + 1)
-    unfolding every aloneAt
-    spreads-more = record {
+    pub spreads_more : Spreads numbers (set seen at 1) (ok && (eqb x 0 || eqb (seen ! at) 0)) (i + 1)
+    unfolding every alone_at
+    spreads_more = record {
       long = length-set seen at 1 ∙ s.long;
       inside = omega arith;
       noted = noted_more;
       alone = λ t.
           rw add-one
-          (and_both (every i (aloneAt numbers)) (aloneAt numbers i) (s.alone (and_left ok _ t))
-          (or-of (eqb x 0) (all (differs x) (take i numbers))
+          (and_both (every i (alone_at numbers)) (alone_at numbers i) (s.alone (and_left ok _ t))
+          (or_of (eqb x 0) (all (differs x) (take i numbers))
           (λ e. new (eqb-true _ _ (or_right (eqb x 0) (eqb (seen ! at) 0) e (and_right ok (eqb x 0 || eqb (seen ! at) 0) t))))));
     }
 
-  pub spreads-end : (seen : List ℕ) (ok : Bool) (i : ℕ) → Spreads numbers seen ok i → length numbers ≤ i → ok ≡ true → every (length numbers) (aloneAt numbers) ≡ true
-  spreads-end seen ok i s h t =
+  pub spreads_end : (seen : List ℕ) (ok : Bool) (i : ℕ) → Spreads numbers seen ok i → length numbers ≤ i → ok ≡ true → every (length numbers) (alone_at numbers) ≡ true
+  spreads_end seen ok i s h t =
       let e : i ≡ length numbers = omega (arith, s.inside) in
       rw e at (s.alone t)

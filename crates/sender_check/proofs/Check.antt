@@ -9,31 +9,31 @@ use lib.Dec.{leb, ltb, eqb}
 use lib.ListN.{length, take, length-take}
 use lib.Seq.{get_or-take}
 use Rattle.terms.specs.Lists.{all}
-use Rattle.terms.proofs.Laws.{case, bool_iff, and_left, and_right, all-at, all_of, rung-passed, or-of}
-use Rattle.timer.specs.Timer.{timingFits}
-use Rattle.sender_state.specs.Table.{◌!◌, differs, countOf}
-use Rattle.sender_check.specs.Steps.{every, aloneAt, placeHolds, holdsAt}
+use Rattle.terms.proofs.Laws.{case, bool_iff, and_left, and_right, all_at, all_of, rung_passed, or_of}
+use Rattle.timer.specs.Timer.{timing_fits}
+use Rattle.sender_state.specs.Table.{◌!◌, differs, count_of}
+use Rattle.sender_check.specs.Steps.{every, alone_at, place_holds, holds_at}
 use Rattle.sender_check.specs.declared.Limits.{Limits}
-use Rattle.sender_state.specs.Places.{places_of, placeAt}
+use Rattle.sender_state.specs.Places.{places_of, place_at}
 use Rattle.sender_state.specs.declared.Place.{Place}
-use Rattle.sender_state.specs.Steps.{leastOf}
-use Rattle.sender_state.specs.Rules.{timerFits, rules}
+use Rattle.sender_state.specs.Steps.{least_of}
+use Rattle.sender_state.specs.Rules.{timer_fits, rules}
 use Rattle.sender_state.specs.declared.Sender.{Sender}
-use Rattle.sender_check.proofs.Every.{every-at, every_of}
-use Rattle.sender_state.proofs.Folds.{least_at, least-there}
-use Rattle.sender_state.proofs.Facts.{unless-at, Ruled, ruled, rules-of}
+use Rattle.sender_check.proofs.Every.{every_at, every_of}
+use Rattle.sender_state.proofs.Folds.{least_at, least_there}
+use Rattle.sender_state.proofs.Facts.{unless_at, Ruled, ruled, rules_of_lem}
 
 -- what one place's test says
 record Held (l : Limits) (i : ℕ) (p : Place) : Type 0 where
   no_number : p.mark ≡ 0 → p.number.0 ≡ 0
   no_size : p.mark ≡ 0 → p.size ≡ 0
-  no-time : p.mark ≡ 0 → p.sent ≡ 0
-  no-resent : p.mark ≡ 0 → p.resent ≡ 0
+  no_time : p.mark ≡ 0 → p.sent ≡ 0
+  no_resent : p.mark ≡ 0 → p.resent ≡ 0
   inside : (p.mark ≡ 0 → ⊥) → i < l.count
   some : (p.mark ≡ 0 → ⊥) → 1 ≤ p.number.0
   long : (p.mark ≡ 0 → ⊥) → 22 ≤ p.size
   short : (p.mark ≡ 0 → ⊥) → p.size ≤ l.chunk + 1044
-  once-or-more : p.resent ≤ 1
+  once_or_more : p.resent ≤ 1
   not-sent : p.mark ≡ 1 → p.sent ≡ 0
   unresent : p.mark ≡ 1 → p.resent ≡ 0
   low : p.mark ≡ 1 → p.number.0 < l.next.0
@@ -57,8 +57,8 @@ module _ (l : Limits) (i : ℕ) (p : Place) where
   abbrev resent : ℕ
   resent = p.resent
 
-  held : placeHolds l i p ≡ true → Held l i p
-  unfolding placeHolds
+  held : place_holds l i p ≡ true → Held l i p
+  unfolding place_holds
   held t =
       case
       (λ (z : mark ≡ 0).
@@ -69,13 +69,13 @@ module _ (l : Limits) (i : ℕ) (p : Place) where
       record {
         no_number = λ _. eqb-true _ _ (and_left (eqb number 0) _ u);
         no_size = λ _. eqb-true _ _ (and_left (eqb size 0) _ v);
-        no-time = λ _. eqb-true _ _ (and_left (eqb sent 0) _ w);
-        no-resent = λ _. none;
+        no_time = λ _. eqb-true _ _ (and_left (eqb sent 0) _ w);
+        no_resent = λ _. none;
         inside = λ n. absurd (n z);
         some = λ n. absurd (n z);
         long = λ n. absurd (n z);
         short = λ n. absurd (n z);
-        once-or-more = omega (arith, none);
+        once_or_more = omega (arith, none);
         not-sent = λ e. absurd (omega arith);
         unresent = λ e. none;
         low = λ e. absurd (omega arith);
@@ -86,11 +86,11 @@ module _ (l : Limits) (i : ℕ) (p : Place) where
       (λ (n : mark ≡ 0 → ⊥).
       let never : false ≡ true → ⊥ = λ e. true≢false (sym e) in
       let t1 = rw (ne_eqb mark 0 n) at t in
-      let p2 = rung-passed (leb l.count i) never t1 in
-      let p3 = rung-passed (ltb number 1) never p2.1 in
-      let p4 = rung-passed (ltb size 22) never p3.1 in
-      let p5 = rung-passed (ltb (l.chunk + 1044) size) never p4.1 in
-      let p6 = rung-passed (ltb 1 resent) never p5.1 in
+      let p2 = rung_passed (leb l.count i) never t1 in
+      let p3 = rung_passed (ltb number 1) never p2.1 in
+      let p4 = rung_passed (ltb size 22) never p3.1 in
+      let p5 = rung_passed (ltb (l.chunk + 1044) size) never p4.1 in
+      let p6 = rung_passed (ltb 1 resent) never p5.1 in
       case
       (λ (w : mark ≡ 1).
       let u : (eqb sent 0 && (eqb resent 0 && ltb number l.next.0)) ≡ true = rw (eq-eqb mark 1 w) at p6.1 in
@@ -98,13 +98,13 @@ module _ (l : Limits) (i : ℕ) (p : Place) where
       record {
         no_number = λ z. absurd (n z);
         no_size = λ z. absurd (n z);
-        no-time = λ z. absurd (n z);
-        no-resent = λ z. absurd (n z);
+        no_time = λ z. absurd (n z);
+        no_resent = λ z. absurd (n z);
         inside = λ _. leb-false _ _ p2.0;
         some = λ _. ltb-false _ _ p3.0;
         long = λ _. ltb-false _ _ p4.0;
         short = λ _. ltb-false _ _ p5.0;
-        once-or-more = ltb-false _ _ p6.0;
+        once_or_more = ltb-false _ _ p6.0;
         not-sent = λ _. eqb-true _ _ (and_left (eqb sent 0) _ u);
         unresent = λ _. eqb-true _ _ (and_left (eqb resent 0) _ v);
         low = λ _. ltb-true _ _ (and_right (eqb resent 0) (ltb number l.next.0) v);
@@ -114,17 +114,17 @@ module _ (l : Limits) (i : ℕ) (p : Place) where
       })
       (λ (o : mark ≡ 1 → ⊥).
       let t7 = rw (ne_eqb mark 1 o) at p6.1 in
-      let p8 = rung-passed (ltb 2 mark) never t7 in
+      let p8 = rung_passed (ltb 2 mark) never t7 in
       record {
         no_number = λ z. absurd (n z);
         no_size = λ z. absurd (n z);
-        no-time = λ z. absurd (n z);
-        no-resent = λ z. absurd (n z);
+        no_time = λ z. absurd (n z);
+        no_resent = λ z. absurd (n z);
         inside = λ _. leb-false _ _ p2.0;
         some = λ _. ltb-false _ _ p3.0;
         long = λ _. ltb-false _ _ p4.0;
         short = λ _. ltb-false _ _ p5.0;
-        once-or-more = ltb-false _ _ p6.0;
+        once_or_more = ltb-false _ _ p6.0;
         not-sent = λ e. absurd (o e);
         unresent = λ e. absurd (o e);
         low = λ e. absurd (o e);
@@ -135,17 +135,17 @@ module _ (l : Limits) (i : ℕ) (p : Place) where
       (ℕ_discrete mark 1))
       (ℕ_discrete mark 0)
 
-  holds : Held l i p → placeHolds l i p ≡ true
-  unfolding placeHolds
+  holds : Held l i p → place_holds l i p ≡ true
+  unfolding place_holds
   holds h =
       case
-      (λ (z : mark ≡ 0). simp (eq-eqb mark 0 z, eq-eqb number 0 (h.no_number z), eq-eqb size 0 (h.no_size z), eq-eqb sent 0 (h.no-time z), eq-eqb resent 0 (h.no-resent z)))
+      (λ (z : mark ≡ 0). simp (eq-eqb mark 0 z, eq-eqb number 0 (h.no_number z), eq-eqb size 0 (h.no_size z), eq-eqb sent 0 (h.no_time z), eq-eqb resent 0 (h.no_resent z)))
       (λ (n : mark ≡ 0 → ⊥).
       let t2 = lt-leb l.count i (h.inside n) in
       let t3 = le-ltb number 1 (h.some n) in
       let t4 = le-ltb size 22 (h.long n) in
       let t5 = le-ltb (l.chunk + 1044) size (h.short n) in
-      let t6 = le-ltb 1 resent h.once-or-more in
+      let t6 = le-ltb 1 resent h.once_or_more in
       case
       (λ (w : mark ≡ 1). simp (ne_eqb mark 0 n, t2, t3, t4, t5, t6, eq-eqb mark 1 w, eq-eqb sent 0 (h.not-sent w), eq-eqb resent 0 (h.unresent w), lt-ltb _ _ (h.low w)))
       (λ (o : mark ≡ 1 → ⊥).
@@ -156,12 +156,12 @@ module _ (l : Limits) (i : ℕ) (p : Place) where
 
 module _ (s : Sender) (table : length s.marks ≡ 192) (row : length s.numbers ≡ 192) where
   -- the rules leave each number alone
-  pub alone_of : Ruled s → every (length s.numbers) (aloneAt s.numbers) ≡ true
-  unfolding aloneAt
+  pub alone_of : Ruled s → every (length s.numbers) (alone_at s.numbers) ≡ true
+  unfolding alone_at
   alone_of r =
-      every_of (aloneAt s.numbers) (length s.numbers)
+      every_of (alone_at s.numbers) (length s.numbers)
       (λ i h.
-      or-of (eqb (s.numbers ! i) 0) (all (differs (s.numbers ! i)) (take i s.numbers))
+      or_of (eqb (s.numbers ! i) 0) (all (differs (s.numbers ! i)) (take i s.numbers))
       (λ e.
       let some = eqb-false (s.numbers ! i) 0 e in
       all_of (differs (s.numbers ! i)) (take i s.numbers)
@@ -178,39 +178,39 @@ module _ (s : Sender) (table : length s.marks ≡ 192) (row : length s.numbers �
       same))))))
 
   -- and numbers that are alone are distinct
-  alone-apart : every (length s.numbers) (aloneAt s.numbers) ≡ true → (i j : ℕ) → i < j → j < 192 → (s.numbers ! j ≡ 0 → ⊥) → s.numbers ! i ≡ s.numbers ! j → ⊥
-  unfolding aloneAt
+  alone-apart : every (length s.numbers) (alone_at s.numbers) ≡ true → (i j : ℕ) → i < j → j < 192 → (s.numbers ! j ≡ 0 → ⊥) → s.numbers ! i ≡ s.numbers ! j → ⊥
+  unfolding alone_at
   alone-apart t i j h k some same =
-      let a = every-at (aloneAt s.numbers) (length s.numbers) t j (omega arith) in
-      let b = unless-at (all (differs (s.numbers ! j)) (take j s.numbers)) (eqb (s.numbers ! j) 0) a (ne_eqb _ _ some) in
+      let a = every_at (alone_at s.numbers) (length s.numbers) t j (omega arith) in
+      let b = unless_at (all (differs (s.numbers ! j)) (take j s.numbers)) (eqb (s.numbers ! j) 0) a (ne_eqb _ _ some) in
       let m : i < length (take j s.numbers) = simp length-take (omega arith) in
-      let d = all-at (differs (s.numbers ! j)) (take j s.numbers) b i m in
+      let d = all_at (differs (s.numbers ! j)) (take j s.numbers) b i m in
       eqb-false _ _ (not-true _ d) (get_or-take j s.numbers i 0 h ∙ same)
 
   abbrev bound : ℕ
-  bound = min (leastOf s.numbers s.marks 1 0 192) s.next.0
+  bound = min (least_of s.numbers s.marks 1 0 192) s.next.0
 
   abbrev limits : Limits
   limits = record { chunk = s.chunk; count = s.count; next = s.next; bound = record { 0 = bound }; clock = s.clock }
 
   abbrev test : ℕ → Bool
-  test = holdsAt limits (places_of s)
+  test = holds_at limits (places_of s)
 
-  pub tests-of : s.next.0 ≤ 4294967295 → Ruled s → every 192 test ≡ true
-  tests-of width r =
+  pub tests_of : s.next.0 ≤ 4294967295 → Ruled s → every 192 test ≡ true
+  tests_of width r =
       every_of test 192
       (λ i h.
-      holds limits i (placeAt s i)
+      holds limits i (place_at s i)
       (record {
         no_number = r.no_number i (omega arith);
         no_size = r.no_length i (omega arith);
-        no-time = r.no-time i (omega arith);
-        no-resent = r.no-resent i (omega arith);
+        no_time = r.no_time i (omega arith);
+        no_resent = r.no_resent i (omega arith);
         inside = λ n. case (λ (q : i < s.count). q) (λ (q : i < s.count → ⊥). absurd (n (r.shut i (omega arith) (omega arith)))) (dec_lt i s.count);
         some = r.some i (omega arith);
         long = r.long i (omega arith);
         short = r.short i (omega arith);
-        once-or-more = r.once-or-more i (omega arith);
+        once_or_more = r.once_or_more i (omega arith);
         not-sent = r.not-sent i (omega arith);
         unresent = r.unresent i (omega arith);
         low = λ w. r.low i (omega arith) (λ z. omega arith);
@@ -218,22 +218,22 @@ module _ (s : Sender) (table : length s.marks ≡ 192) (row : length s.numbers �
         lower = λ f.
             let below = r.low i (omega arith) (λ z. omega arith) in
             case
-            (λ (q : leastOf s.numbers s.marks 1 0 192 < 4294967295).
-            let w = least-there s.numbers s.marks 1 0 192 q in
+            (λ (q : least_of s.numbers s.marks 1 0 192 < 4294967295).
+            let w = least_there s.numbers s.marks 1 0 192 q in
             omega (arith, w.is, r.order i w.place (omega arith) (omega (arith, w.inside)) f w.marked))
-            (λ (q : leastOf s.numbers s.marks 1 0 192 < 4294967295 → ⊥). omega arith)
-            (dec_lt (leastOf s.numbers s.marks 1 0 192) 4294967295);
+            (λ (q : least_of s.numbers s.marks 1 0 192 < 4294967295 → ⊥). omega arith)
+            (dec_lt (least_of s.numbers s.marks 1 0 192) 4294967295);
         past = λ f. r.past i (omega arith);
       }))
 
-  module _ (alone : every (length s.numbers) (aloneAt s.numbers) ≡ true) (few : countOf 2 s.marks ≤ 128) (next-some : 1 ≤ s.next.0)
-      (due : timerFits s.timer s.clock ≡ true) (window-some : 1 ≤ s.window) (window-most : s.window ≤ 128)
-      (timing : timingFits s.timing ≡ true) (clock-most : s.clock ≤ 1000000000000000) where
-    ruled-by : every 192 test ≡ true → Ruled s
-    ruled-by t =
-        let f : (i : ℕ) → i < length s.marks → Held limits i (placeAt s i) =
-        λ i h. held limits i (placeAt s i) (every-at test 192 t i (omega arith)) in
-        let least : (j : ℕ) → j < length s.marks → s.marks ! j ≡ 1 → leastOf s.numbers s.marks 1 0 192 ≤ s.numbers ! j =
+  module _ (alone : every (length s.numbers) (alone_at s.numbers) ≡ true) (few : count_of 2 s.marks ≤ 128) (next-some : 1 ≤ s.next.0)
+      (due : timer_fits s.timer s.clock ≡ true) (window-some : 1 ≤ s.window) (window_most : s.window ≤ 128)
+      (timing : timing_fits s.timing ≡ true) (clock_most : s.clock ≤ 1000000000000000) where
+    ruled_by : every 192 test ≡ true → Ruled s
+    ruled_by t =
+        let f : (i : ℕ) → i < length s.marks → Held limits i (place_at s i) =
+        λ i h. held limits i (place_at s i) (every_at test 192 t i (omega arith)) in
+        let least : (j : ℕ) → j < length s.marks → s.marks ! j ≡ 1 → least_of s.numbers s.marks 1 0 192 ≤ s.numbers ! j =
         λ j k w. least_at s.numbers s.marks 1 0 192 j (omega arith) w (omega arith) in
         record {
           distinct = λ i j h k o a b e.
@@ -251,13 +251,13 @@ module _ (s : Sender) (table : length s.marks ≡ 192) (row : length s.numbers �
           shut = λ i h a. case (λ (z : s.marks ! i ≡ 0). z) (λ (n : s.marks ! i ≡ 0 → ⊥). absurd (omega (arith, (f i h).inside n))) (ℕ_discrete (s.marks ! i) 0);
           no_number = λ i h. (f i h).no_number;
           no_length = λ i h. (f i h).no_size;
-          no-time = λ i h. (f i h).no-time;
-          no-resent = λ i h. (f i h).no-resent;
+          no_time = λ i h. (f i h).no_time;
+          no_resent = λ i h. (f i h).no_resent;
           not-sent = λ i h. (f i h).not-sent;
           few = few;
           past = λ i h.
               case
-              (λ (z : s.marks ! i ≡ 0). omega (arith, (f i h).no-time z))
+              (λ (z : s.marks ! i ≡ 0). omega (arith, (f i h).no_time z))
               (λ (n : s.marks ! i ≡ 0 → ⊥).
               case
               (λ (w : s.marks ! i ≡ 1). omega (arith, (f i h).not-sent w))
@@ -266,16 +266,16 @@ module _ (s : Sender) (table : length s.marks ≡ 192) (row : length s.numbers �
               (ℕ_discrete (s.marks ! i) 0);
           due = due;
           window-some = window-some;
-          window-most = window-most;
+          window_most = window_most;
           timing = timing;
           long = λ i h. (f i h).long;
           short = λ i h. (f i h).short;
-          clock-most = clock-most;
+          clock_most = clock_most;
           unresent = λ i h. (f i h).unresent;
           known = λ i h. (f i h).known;
-          once-or-more = λ i h. (f i h).once-or-more;
+          once_or_more = λ i h. (f i h).once_or_more;
         }
 
     -- what is left once all else has passed
     pub tests_left : s.next.0 ≤ 4294967295 → every 192 test ≡ rules s
-    tests_left width = bool_iff (every 192 test) (rules s) (λ t. rules-of s (ruled-by t)) (λ t. tests-of width (ruled s t))
+    tests_left width = bool_iff (every 192 test) (rules s) (λ t. rules_of_lem s (ruled_by t)) (λ t. tests_of width (ruled s t))

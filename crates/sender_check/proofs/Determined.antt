@@ -5,5 +5,5 @@ use Rattle.terms.proofs.Determined.{determined}
 use Rattle.sender_state.specs.Rules.{rules}
 use Rattle.sender_state.specs.declared.Sender.{Sender}
 
-pub valid-determined : (s : Sender) (a b : Bool) → a ≡ rules s → b ≡ rules s → a ≡ b
-valid-determined s a b p q = determined p q
+pub valid_determined : (s : Sender) (a b : Bool) → a ≡ rules s → b ≡ rules s → a ≡ b
+valid_determined s a b p q = determined p q

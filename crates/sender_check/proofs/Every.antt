@@ -10,21 +10,21 @@ use Rattle.terms.proofs.Laws.{case, and_left, and_right, and_both}
 use Rattle.sender_check.specs.Steps.{every}
 
 -- each index below n
-pub every-none : (p : ℕ → Bool) → true ≡ every 0 p
+pub every_none : (p : ℕ → Bool) → true ≡ every 0 p
 unfolding every
-every-none p = refl
+every_none p = refl
 
 pub every_more : (p : ℕ → Bool) (ok : Bool) (i : ℕ) → ok ≡ every i p → (ok && p i) ≡ every (i + 1) p
 unfolding every
 every_more p ok i e = rw (add-one, e)
 
-pub every-at : (p : ℕ → Bool) (n : ℕ) → every n p ≡ true → (k : ℕ) → k < n → p k ≡ true
+pub every_at : (p : ℕ → Bool) (n : ℕ) → every n p ≡ true → (k : ℕ) → k < n → p k ≡ true
 unfolding every
-every-at p zero t k h = absurd (not-suc-le-zero h)
-every-at p (suc n) t k h =
+every_at p zero t k h = absurd (not-suc-le-zero h)
+every_at p (suc n) t k h =
     case
     (λ (e : k ≡ n). rw e (and_right (every n p) (p n) t))
-    (λ (o : k ≡ n → ⊥). every-at p n (and_left (every n p) (p n) t) k (omega (arith, o)))
+    (λ (o : k ≡ n → ⊥). every_at p n (and_left (every n p) (p n) t) k (omega (arith, o)))
     (ℕ_discrete k n)
 
 pub every_of : (p : ℕ → Bool) (n : ℕ) → ((k : ℕ) → k < n → p k ≡ true) → every n p ≡ true
@@ -33,8 +33,8 @@ every_of p zero f = refl
 every_of p (suc n) f = and_both (every n p) (p n) (every_of p n (λ k h. f k (omega arith))) (f n (omega arith))
 
 -- the last turn, and one more where a call gave the test's value
-pub every-turn : (p : ℕ → Bool) (ok one : Bool) (i : ℕ) → ok ≡ every i p → one ≡ p i → (ok && one) ≡ every (i + 1) p
-every-turn p ok one i e f = rw f (every_more p ok i e)
+pub every_turn : (p : ℕ → Bool) (ok one : Bool) (i : ℕ) → ok ≡ every i p → one ≡ p i → (ok && one) ≡ every (i + 1) p
+every_turn p ok one i e f = rw f (every_more p ok i e)
 
-pub every-last : (p : ℕ → Bool) (ok : Bool) (i n : ℕ) → ok ≡ every i p → i ≡ n → ok ≡ every n p
-every-last p ok i n e f = rw f at e
+pub every_last : (p : ℕ → Bool) (ok : Bool) (i n : ℕ) → ok ≡ every i p → i ≡ n → ok ≡ every n p
+every_last p ok i n e f = rw f at e

@@ -1,9 +1,9 @@
 // Whether a sender's state keeps document 01's rules: what stands behind refusal 11, and what each call asks first.
 ghost use Rattle.std.specs.Prelude.{◌≡◌, true, ◌≤◌, ◌<◌, length};
-ghost use Rattle.timer.specs.Timer.{timingFits};
+ghost use Rattle.timer.specs.Timer.{timing_fits};
 ghost use Rattle.sender_state.specs.Places.{state_of};
-ghost use Rattle.sender_state.specs.Rules.{timerFits, rules};
-ghost use Rattle.sender_check.specs.Steps.{every, aloneAt, placeHolds, holdsAt};
+ghost use Rattle.sender_state.specs.Rules.{timer_fits, rules};
+ghost use Rattle.sender_check.specs.Steps.{every, alone_at, place_holds, holds_at};
 
 use sender_state::{Place, Sender, Timer};
 use terms::SeqNo;
@@ -22,7 +22,7 @@ pub struct Limits {
 // Whether the number at index i is 0 or stands at no index below.
 fn alone(numbers: &[u32], i: usize) -> bool
     requires { i < length numbers.now }
-    ensures { result ≡ aloneAt numbers.now i }
+    ensures { result ≡ alone_at numbers.now i }
 {
     let x = numbers[i];
     if x == 0 {
@@ -34,7 +34,7 @@ fn alone(numbers: &[u32], i: usize) -> bool
 // A quick test that tells, where it passes, that no number but 0 stands twice: each has a remainder by 2,048 of its own. The numbers of
 // a stream lie close together, so its states pass, and the long comparison is for those that do not.
 fn spread(numbers: &[u32]) -> bool
-    ensures { result ≡ true → every (length numbers.now) (aloneAt numbers.now) ≡ true }
+    ensures { result ≡ true → every (length numbers.now) (alone_at numbers.now) ≡ true }
 {
     let mut seen = [0u8; 2048];
     let mut ok = true;
@@ -51,7 +51,7 @@ fn spread(numbers: &[u32]) -> bool
 
 // Whether no number but 0 stands twice.
 fn all_alone(numbers: &[u32]) -> bool
-    ensures { result ≡ every (length numbers.now) (aloneAt numbers.now) }
+    ensures { result ≡ every (length numbers.now) (alone_at numbers.now) }
 {
     if spread(numbers) {
         return true;
@@ -68,7 +68,7 @@ fn all_alone(numbers: &[u32]) -> bool
 
 // Whether one place keeps its own rules. The lengths are compared in 64 bits: the chunk size may be any number here.
 fn place_holds(l: Limits, i: usize, p: Place) -> bool
-    ensures { result ≡ placeHolds l i p }
+    ensures { result ≡ place_holds l i p }
 {
     if p.mark == 0 {
         return (p.number.0 == 0) & ((p.size == 0) & ((p.sent == 0) & (p.resent == 0)));
@@ -107,7 +107,7 @@ fn places_hold<'a>(
     marks: &'a [u32],
 ) -> bool
     requires { (length numbers.now ≡ 192) × (length lengths.now ≡ 192) × (length sent.now ≡ 192) × (length resent.now ≡ 192) × (length marks.now ≡ 192) }
-    ensures { result ≡ every 192 (holdsAt limits (record { numbers = numbers.entry.now; lengths = lengths.now; sent = sent.now; resent = resent.now; marks = marks.now })) }
+    ensures { result ≡ every 192 (holds_at limits (record { numbers = numbers.entry.now; lengths = lengths.now; sent = sent.now; resent = resent.now; marks = marks.now })) }
 {
     let mut ok = true;
     let mut i = 0;
@@ -130,7 +130,7 @@ fn places_hold<'a>(
 // Whether an armed timer is at most 60,000 past the last clock, which is itself at most 10^15.
 fn timer_fits(timer: Timer, clock: u64) -> bool
     requires { clock ≤ 1000000000000000 }
-    ensures { result ≡ timerFits timer clock }
+    ensures { result ≡ timer_fits timer clock }
 {
     match timer {
         Timer::Unarmed => true,
@@ -140,7 +140,7 @@ fn timer_fits(timer: Timer, clock: u64) -> bool
 
 // Whether the smoothed time and its deviation are below 2^32, as 32 bits always are.
 fn timing_fits(timing: Timing) -> bool
-    ensures { result ≡ timingFits timing }
+    ensures { result ≡ timing_fits timing }
 {
     match timing {
         Timing::Unsampled => true,

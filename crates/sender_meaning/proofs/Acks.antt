@@ -13,32 +13,32 @@ use Rattle.terms.specs.Answers.{refusal, values}
 use Rattle.terms.proofs.Laws.{past}
 use Rattle.receiver_calls.proofs.Laws.{by_said}
 use Rattle.receiver_ack.specs.Missing.{ascending}
-use Rattle.sender_state.specs.Table.{isFlying, placeOf}
-use Rattle.sender_state.specs.Rules.{rules, countsFit, clockWrong}
+use Rattle.sender_state.specs.Table.{is_flying, place_of}
+use Rattle.sender_state.specs.Rules.{rules, counts_fit, clock_wrong}
 use Rattle.sender_state.specs.Answers.{Outcome}
 use Rattle.sender_state.specs.declared.Sender.{Sender}
-use Rattle.sender_acks.specs.Acks.{ackedAt, ackedOf, acksRefusal, measuredBy, timedBy, grownBy, acksLeave, acksOf}
-use Rattle.sender_resend.specs.Resend.{isIn}
-use Rattle.sender_state.proofs.Facts.{clock-fair}
-use Rattle.sender_meaning.specs.Meaning.{mark_of, standing, doesFly, Sound}
-use Rattle.sender_meaning.specs.Steps.{isFair, isNamed, ackedAs}
+use Rattle.sender_acks.specs.Acks.{acked_at, acked_of, acks_refusal, measured_by, timed_by, grown_by, acks_leave, acks_of}
+use Rattle.sender_resend.specs.Resend.{is_in}
+use Rattle.sender_state.proofs.Facts.{clock_fair}
+use Rattle.sender_meaning.specs.Meaning.{mark_of, standing, does_fly, Sound}
+use Rattle.sender_meaning.specs.Steps.{is_fair, is_named, acked_as}
 use Rattle.sender_meaning.specs.Changes.{LeavesFlight}
-use Rattle.sender_meaning.proofs.Counts.{by_bool, fair-rung, run-has, run-ascending}
-use Rattle.sender_meaning.proofs.Stands.{facts, marked-is, flies-told, counts-fit}
+use Rattle.sender_meaning.proofs.Counts.{by_bool, fair_rung, run_has, run-ascending}
+use Rattle.sender_meaning.proofs.Stands.{facts, marked_is, flies-told, counts_fit_lem}
 use Rattle.sender_meaning.proofs.Moves.{later-fits}
-use Rattle.sender_meaning.proofs.Frees.{measured-fits, timed-fits, grown-fits, freed-sound, freed-means}
+use Rattle.sender_meaning.proofs.Frees.{measured_fits, timed-fits, grown_fits, freed_sound, freed_means}
 
 -- acknowledged are the numbers that fly, are at most ack-through and not NACKed
-pub acked-is : (s : Sender) (store : List ℕ) → Sound s store → (through : ℕ) (nacks : List ℕ) (n : ℕ)
-    → isIn (ackedOf s through nacks) n ≡ (doesFly (standing s store n) && isNamed through nacks n)
-acked-is s store sound through nacks n =
-    let place = placeOf s.numbers n in
-    run-has (λ m. ackedAt s.numbers s.marks through nacks (placeOf s.numbers m)) s.next.0 n
-    ∙ by_bool (isFlying (mark_of s n))
+pub acked_is : (s : Sender) (store : List ℕ) → Sound s store → (through : ℕ) (nacks : List ℕ) (n : ℕ)
+    → is_in (acked_of s through nacks) n ≡ (does_fly (standing s store n) && is_named through nacks n)
+acked_is s store sound through nacks n =
+    let place = place_of s.numbers n in
+    run_has (λ m. acked_at s.numbers s.marks through nacks (place_of s.numbers m)) s.next.0 n
+    ∙ by_bool (is_flying (mark_of s n))
     (λ t.
-    let is = marked-is s store sound n (λ z. let e = eqb-true (mark_of s n) 2 t in omega arith) in
-    rw (← flies-told s store n, t, is) (shorter (ltb n s.next.0) (isNamed through nacks n)))
-    (λ f. rw (← flies-told s store n, f) (none (ltb n s.next.0) (isNamed through nacks n))) where
+    let is = marked_is s store sound n (λ z. let e = eqb-true (mark_of s n) 2 t in omega arith) in
+    rw (← flies-told s store n, t, is) (shorter (ltb n s.next.0) (is_named through nacks n)))
+    (λ f. rw (← flies-told s store n, f) (none (ltb n s.next.0) (is_named through nacks n))) where
       shorter : (a c : Bool) → (a && c) ≡ ((a && true) && c)
       shorter true c = refl
       shorter false c = refl
@@ -48,30 +48,30 @@ acked-is s store sound through nacks n =
       none false c = refl
 
 -- ascending, so that each of them counts once
-pub acked-ascending : (s : Sender) (through : ℕ) (nacks : List ℕ) → ascending (ackedOf s through nacks) ≡ true
-acked-ascending s through nacks = run-ascending (λ n. ackedAt s.numbers s.marks through nacks (placeOf s.numbers n)) s.next.0 0
+pub acked_ascending : (s : Sender) (through : ℕ) (nacks : List ℕ) → ascending (acked_of s through nacks) ≡ true
+acked_ascending s through nacks = run-ascending (λ n. acked_at s.numbers s.marks through nacks (place_of s.numbers n)) s.next.0 0
 
 module _ (s : Sender) (through : ℕ) (nacks : List ℕ) (clock : ℕ) where
   -- what it leaves, once it is known whether something keeps it from being done
-  refused-is : (n : ℕ) → acksRefusal s through (length nacks) clock ≡ refusal n → acksOf s through nacks clock ≡ record { says = refusal n; state = s; lent = [] }
-  unfolding acksOf
+  refused-is : (n : ℕ) → acks_refusal s through (length nacks) clock ≡ refusal n → acks_of s through nacks clock ≡ record { says = refusal n; state = s; lent = [] }
+  unfolding acks_of
   refused-is n e = simp e
 
-  done-is : (given : List ℕ) → acksRefusal s through (length nacks) clock ≡ values given
-      → acksOf s through nacks clock ≡ record { says = values (length (ackedOf s through nacks) ∷ []); state = acksLeave s through nacks clock; lent = [] }
-  unfolding acksOf
-  done-is given e = simp e
+  done_is : (given : List ℕ) → acks_refusal s through (length nacks) clock ≡ values given
+      → acks_of s through nacks clock ≡ record { says = values (length (acked_of s through nacks) ∷ []); state = acks_leave s through nacks clock; lent = [] }
+  unfolding acks_of
+  done_is given e = simp e
 
-  judged : {C : Type 0} → ((n : ℕ) → acksRefusal s through (length nacks) clock ≡ refusal n → (acksOf s through nacks clock).says ≡ refusal n → C)
-      → ((given : List ℕ) → acksRefusal s through (length nacks) clock ≡ values given
-      → (acksOf s through nacks clock).says ≡ values (length (ackedOf s through nacks) ∷ []) → C) → C
+  judged : {C : Type 0} → ((n : ℕ) → acks_refusal s through (length nacks) clock ≡ refusal n → (acks_of s through nacks clock).says ≡ refusal n → C)
+      → ((given : List ℕ) → acks_refusal s through (length nacks) clock ≡ values given
+      → (acks_of s through nacks clock).says ≡ values (length (acked_of s through nacks) ∷ []) → C) → C
   judged f g =
-      by_said (acksRefusal s through (length nacks) clock)
+      by_said (acks_refusal s through (length nacks) clock)
       (λ n e. f n e (ap (λ (o : Outcome). o.says) (refused-is n e)))
-      (λ given e. g given e (ap (λ (o : Outcome). o.says) (done-is given e)))
+      (λ given e. g given e (ap (λ (o : Outcome). o.says) (done_is given e)))
 
   -- a refusal changes nothing
-  pub acks-nothing : (n : ℕ) → (acksOf s through nacks clock).says ≡ refusal n → (acksOf s through nacks clock).state ≡ s
+  pub acks-nothing : (n : ℕ) → (acks_of s through nacks clock).says ≡ refusal n → (acks_of s through nacks clock).state ≡ s
   acks-nothing n e =
       judged
       (λ m q _. ap (λ (o : Outcome). o.state) (refused-is m q))
@@ -79,7 +79,7 @@ module _ (s : Sender) (through : ℕ) (nacks : List ℕ) (clock : ℕ) where
 
   module _ (store : List ℕ) (sound : Sound s store) where
     -- what holds where it is done
-    module _ (blank : List ℕ) (pass : acksRefusal s through (length nacks) clock ≡ values blank) where
+    module _ (blank : List ℕ) (pass : acks_refusal s through (length nacks) clock ≡ values blank) where
       record Passed : Type 0 where
         later : s.clock ≤ clock
         most : clock ≤ 1000000000000000
@@ -87,39 +87,39 @@ module _ (s : Sender) (through : ℕ) (nacks : List ℕ) (clock : ℕ) where
         within : through ≤ s.next.0
 
       passed : Passed
-      unfolding acksRefusal
+      unfolding acks_refusal
       passed =
           let p11 = past 11 (not (rules s)) _ blank pass in
-          let p10 = past 10 (not (countsFit s.chunk s.count)) _ blank p11.1 in
-          let p24 = past 24 (clockWrong s.clock clock) _ blank p10.1 in
+          let p10 = past 10 (not (counts_fit s.chunk s.count)) _ blank p11.1 in
+          let p24 = past 24 (clock_wrong s.clock clock) _ blank p10.1 in
           let p8 = past 8 (ltb 255 (length nacks)) _ blank p24.1 in
           let p23 = past 23 (ltb s.next.0 through) _ blank p8.1 in
-          let fair = clock-fair s.clock clock p24.0 in
+          let fair = clock_fair s.clock clock p24.0 in
           record { later = fair.0; most = fair.1; few = ltb-false _ _ p8.0; within = ltb-false _ _ p23.0 }
 
-      leave-sound : Sound (acksLeave s through nacks clock) store
-      leave-sound =
+      leave_sound : Sound (acks_leave s through nacks clock) store
+      leave_sound =
           let r = facts s store sound in
-          let w = grown-fits s.window (ackedOf s through nacks) r.window-some r.window-most in
-          freed-sound s store sound (ackedAt s.numbers s.marks through nacks)
-          (timedBy (measuredBy s.numbers s.sent s.resent clock) s.timing (ackedOf s through nacks)) (grownBy s.window (ackedOf s through nacks)) clock
+          let w = grown_fits s.window (acked_of s through nacks) r.window-some r.window_most in
+          freed_sound s store sound (acked_at s.numbers s.marks through nacks)
+          (timed_by (measured_by s.numbers s.sent s.resent clock) s.timing (acked_of s through nacks)) (grown_by s.window (acked_of s through nacks)) clock
           passed.later passed.most (later-fits s.timer s.clock clock r.due passed.later)
-          (timed-fits (measuredBy s.numbers s.sent s.resent clock) (measured-fits s.numbers s.sent s.resent clock) s.timing (ackedOf s through nacks) r.timing) w.0 w.1
+          (timed-fits (measured_by s.numbers s.sent s.resent clock) (measured_fits s.numbers s.sent s.resent clock) s.timing (acked_of s through nacks) r.timing) w.0 w.1
 
-      leave-means : (n : ℕ) → standing (acksLeave s through nacks clock) store n ≡ ackedAs through nacks n (standing s store n)
-      leave-means =
-          freed-means s store sound through nacks
-          (timedBy (measuredBy s.numbers s.sent s.resent clock) s.timing (ackedOf s through nacks)) (grownBy s.window (ackedOf s through nacks)) clock leave-sound
+      leave_means : (n : ℕ) → standing (acks_leave s through nacks clock) store n ≡ acked_as through nacks n (standing s store n)
+      leave_means =
+          freed_means s store sound through nacks
+          (timed_by (measured_by s.numbers s.sent s.resent clock) s.timing (acked_of s through nacks)) (grown_by s.window (acked_of s through nacks)) clock leave_sound
 
-    pub acks-changes : (given : List ℕ) → (acksOf s through nacks clock).says ≡ values given → LeavesFlight s through nacks clock store given
-    acks-changes given done =
+    pub acks_changes : (given : List ℕ) → (acks_of s through nacks clock).says ≡ values given → LeavesFlight s through nacks clock store given
+    acks_changes given done =
         judged
         (λ m q p. let z : ◌≡◌ {A = ℕ} 0 1 = cc in absurd (omega arith))
         (λ blank q p.
-        let state-is = ap (λ (o : Outcome). o.state) (done-is blank q) in
+        let state-is = ap (λ (o : Outcome). o.state) (done_is blank q) in
         record {
           gives = cc;
-          now-is = λ n. rw state-is (leave-means blank q n);
+          now_is = λ n. rw state-is (leave_means blank q n);
           next-is = ap (λ (x : Sender). x.next) state-is;
           chunk-is = ap (λ (x : Sender). x.chunk) state-is;
           count-is = ap (λ (x : Sender). x.count) state-is;
@@ -130,30 +130,30 @@ module _ (s : Sender) (through : ℕ) (nacks : List ℕ) (clock : ℕ) where
         })
 
     -- acks keep a sound state and store sound, whatever they are given
-    pub acks-sound : Sound (acksOf s through nacks clock).state store
+    pub acks-sound : Sound (acks_of s through nacks clock).state store
     acks-sound =
         judged
         (λ m q p. rw (ap (λ (o : Outcome). o.state) (refused-is m q)) sound)
-        (λ blank q p. rw (ap (λ (o : Outcome). o.state) (done-is blank q)) (leave-sound blank q))
+        (λ blank q p. rw (ap (λ (o : Outcome). o.state) (done_is blank q)) (leave_sound blank q))
 
     -- their answer in a sound state
-    pub acks-answer : (acksOf s through nacks clock).says
-        ≡ (refusal 24 when clockWrong s.clock clock else
+    pub acks-answer : (acks_of s through nacks clock).says
+        ≡ (refusal 24 when clock_wrong s.clock clock else
         refusal 8 when ltb 255 (length nacks) else
         refusal 23 when ltb s.next.0 through else
-        values (length (ackedOf s through nacks) ∷ []))
-    unfolding acksOf acksRefusal
+        values (length (acked_of s through nacks) ∷ []))
+    unfolding acks_of acks_refusal
     acks-answer =
-        rw (sound.keeps, counts-fit s store sound)
-        (by_bool (clockWrong s.clock clock) (λ t. rw t)
+        rw (sound.keeps, counts_fit_lem s store sound)
+        (by_bool (clock_wrong s.clock clock) (λ t. rw t)
         (λ f. rw f
         (by_bool (ltb 255 (length nacks)) (λ t. rw t)
         (λ g. rw g (by_bool (ltb s.next.0 through) (λ t. rw t) (λ h. rw h))))))
 
     -- none blames the rules or the sizes
-    pub acks-fair : isFair (acksOf s through nacks clock).says ≡ true
-    acks-fair =
+    pub acks_fair : is_fair (acks_of s through nacks clock).says ≡ true
+    acks_fair =
         rw acks-answer
-        (fair-rung 24 (clockWrong s.clock clock) _ refl
-        (fair-rung 8 (ltb 255 (length nacks)) _ refl
-        (fair-rung 23 (ltb s.next.0 through) _ refl refl)))
+        (fair_rung 24 (clock_wrong s.clock clock) _ refl
+        (fair_rung 8 (ltb 255 (length nacks)) _ refl
+        (fair_rung 23 (ltb s.next.0 through) _ refl refl)))

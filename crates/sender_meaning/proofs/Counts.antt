@@ -14,12 +14,12 @@ use Rattle.terms.specs.Lists.{all}
 use Rattle.terms.proofs.Laws.{case, rung, and_both}
 use Rattle.terms.specs.Answers.{Said, refusal}
 use Rattle.receiver_ack.specs.Missing.{ascending}
-use Rattle.sender_state.specs.Table.{◌!◌, countOf, placeOf, replaced}
-use Rattle.sender_state.specs.Numbers.{run, numbersWhere, markedWith}
-use Rattle.sender_resend.specs.Resend.{is_empty, isIn}
-use Rattle.sender_state.proofs.Runs.{beyond, run_none, in-run, not_in}
+use Rattle.sender_state.specs.Table.{◌!◌, count_of, place_of, replaced}
+use Rattle.sender_state.specs.Numbers.{run, numbers_where, marked_with}
+use Rattle.sender_resend.specs.Resend.{is_empty, is_in}
+use Rattle.sender_state.proofs.Runs.{beyond, run_none, in_run, not_in}
 use Rattle.sender_state.proofs.Search.{place_is}
-use Rattle.sender_meaning.specs.Steps.{isFair}
+use Rattle.sender_meaning.specs.Steps.{is_fair}
 
 -- a test that was judged
 pub by_bool : {C : Type 0} (b : Bool) → (b ≡ true → C) → (b ≡ false → C) → C
@@ -27,22 +27,22 @@ by_bool true f g = f refl
 by_bool false f g = g refl
 
 -- a rung that blames neither the rules nor the sizes
-pub fair-rung : (n : ℕ) (test : Bool) (rest : Said) → isFair (refusal n) ≡ true → isFair rest ≡ true → isFair (refusal n when test else rest) ≡ true
-fair-rung n test rest e f = rung (λ (x : Said). isFair x ≡ true) test (λ _. e) (λ _. f)
+pub fair_rung : (n : ℕ) (test : Bool) (rest : Said) → is_fair (refusal n) ≡ true → is_fair rest ≡ true → is_fair (refusal n when test else rest) ≡ true
+fair_rung n test rest e f = rung (λ (x : Said). is_fair x ≡ true) test (λ _. e) (λ _. f)
 
 -- a number is in a run from 0 where it is below the end and passes
-pub run-has : (p : ℕ → Bool) (next n : ℕ) → isIn (run p 0 next) n ≡ (ltb n next && p n)
-run-has p next n =
+pub run_has : (p : ℕ → Bool) (next n : ℕ) → is_in (run p 0 next) n ≡ (ltb n next && p n)
+run_has p next n =
     case
     (λ (q : n < next).
     by_bool (p n)
-    (λ t. rw (lt-ltb n next q, t, in-run p n next 0 (omega arith) (omega arith) t))
+    (λ t. rw (lt-ltb n next q, t, in_run p n next 0 (omega arith) (omega arith) t))
     (λ f. rw (lt-ltb n next q, f, not_in p n next 0 (λ t _. true≢false (sym t ∙ f)))))
     (λ (q : n < next → ⊥). let b : next ≤ n = omega arith in rw (le-ltb n next b, not_in p n next 0 (λ _ h. omega arith)))
     (dec_lt n next)
 
 -- a list without elements has no number in it
-pub none_in : (l : List ℕ) → is_empty l ≡ true → (n : ℕ) → isIn l n ≡ false
+pub none_in : (l : List ℕ) → is_empty l ≡ true → (n : ℕ) → is_in l n ≡ false
 none_in [] t n = refl
 none_in (x ∷ l) t n = absurd (not-suc-le-zero (leb-true (length (x ∷ l)) 0 t))
 
@@ -74,18 +74,18 @@ module _ (p q : ℕ → Bool) (x : ℕ) (others : (n : ℕ) → (n ≡ x → ⊥
       (ℕ_discrete from x)
 
 -- as many numbers bear a mark as places do
-pub marked-count : (wanted next : ℕ) → 1 ≤ wanted → (numbers marks : List ℕ) → length numbers ≡ length marks
+pub marked_count : (wanted next : ℕ) → 1 ≤ wanted → (numbers marks : List ℕ) → length numbers ≡ length marks
     → ((i : ℕ) → i < length marks → marks ! i ≡ wanted → numbers ! i < next)
     → ((i j : ℕ) → i < length marks → j < length marks → (i ≡ j → ⊥) → marks ! i ≡ wanted → numbers ! i ≡ numbers ! j → ⊥)
-    → length (numbersWhere numbers next (markedWith wanted marks)) ≡ countOf wanted marks
+    → length (numbers_where numbers next (marked_with wanted marks)) ≡ count_of wanted marks
 unfolding run
-marked-count wanted next some [] [] long low lone =
+marked_count wanted next some [] [] long low lone =
     ap length (rw (sub-zero next) at (run_none (λ n. eqb 0 wanted) 0 next (λ m a b. ne_eqb 0 wanted (λ e. omega arith))))
-marked-count wanted next some [] (m ∷ k) long low lone = absurd (omega arith)
-marked-count wanted next some (x ∷ l) [] long low lone = absurd (omega arith)
-marked-count wanted next some (x ∷ l) (m ∷ k) long low lone =
+marked_count wanted next some [] (m ∷ k) long low lone = absurd (omega arith)
+marked_count wanted next some (x ∷ l) [] long low lone = absurd (omega arith)
+marked_count wanted next some (x ∷ l) (m ∷ k) long low lone =
     let rest =
-    marked-count wanted next some l k (omega arith)
+    marked_count wanted next some l k (omega arith)
     (λ i h e. low (suc i) (omega arith) e)
     (λ i j h g o e f. lone (suc i) (suc j) (omega arith) (omega arith) (λ z. o (omega arith)) e f) in
     case
@@ -97,35 +97,35 @@ marked-count wanted next some (x ∷ l) (m ∷ k) long low lone =
     ∙ rw (ne_eqb m wanted o) (rest ∙ (omega arith)))
     (ℕ_discrete m wanted) where
       p : ℕ → Bool
-      p n = markedWith wanted (m ∷ k) (placeOf (x ∷ l) n)
+      p n = marked_with wanted (m ∷ k) (place_of (x ∷ l) n)
 
       q : ℕ → Bool
-      q n = markedWith wanted k (placeOf l n)
+      q n = marked_with wanted k (place_of l n)
 
       others : (n : ℕ) → (n ≡ x → ⊥) → p n ≡ q n
       others n o = rw (ne_eqb x n (λ e. o (sym e)))
 
       absent : q x ≡ false
       absent =
-          ne_eqb (k ! placeOf l x) wanted
+          ne_eqb (k ! place_of l x) wanted
           (λ e.
           case
-          (λ (h : placeOf l x < length k).
-          lone (suc (placeOf l x)) 0 (omega arith) (omega arith) (λ z. omega arith) e (place_is l x (omega arith)))
-          (λ (h : placeOf l x < length k → ⊥). omega (arith, beyond k (placeOf l x) 0 (omega arith), e))
-          (dec_lt (placeOf l x) (length k)))
+          (λ (h : place_of l x < length k).
+          lone (suc (place_of l x)) 0 (omega arith) (omega arith) (λ z. omega arith) e (place_is l x (omega arith)))
+          (λ (h : place_of l x < length k → ⊥). omega (arith, beyond k (place_of l x) 0 (omega arith), e))
+          (dec_lt (place_of l x) (length k)))
 
 -- a mark put where it was not counts one more, and places freed never count more
-pub count_set : (x : ℕ) (l : List ℕ) (i : ℕ) → i < length l → (l ! i ≡ x → ⊥) → countOf x (set l i x) ≡ countOf x l + 1
+pub count_set : (x : ℕ) (l : List ℕ) (i : ℕ) → i < length l → (l ! i ≡ x → ⊥) → count_of x (set l i x) ≡ count_of x l + 1
 count_set x [] i h o = absurd (not-suc-le-zero h)
 count_set x (y ∷ l) zero h o = rw (eq-eqb x x refl, ne_eqb y x o) (omega arith)
 count_set x (y ∷ l) (suc i) h o = rw (count_set x l i (le_of_suc-le-suc h) o) (omega arith)
 
-pub count-freed : (x : ℕ) → 1 ≤ x → (p : ℕ → Bool) (i : ℕ) (l : List ℕ) → countOf x (replaced 0 p i l) ≤ countOf x l
+pub count_freed : (x : ℕ) → 1 ≤ x → (p : ℕ → Bool) (i : ℕ) (l : List ℕ) → count_of x (replaced 0 p i l) ≤ count_of x l
 unfolding replaced
-count-freed x some p i [] = omega arith
-count-freed x some p i (y ∷ l) =
-    let r = count-freed x some p (suc i) l in
+count_freed x some p i [] = omega arith
+count_freed x some p i (y ∷ l) =
+    let r = count_freed x some p (suc i) l in
     by_bool (p i)
     (λ t. rw (t, ne_eqb 0 x (λ e. omega arith)) (omega arith))
     (λ f. rw f (omega arith))
@@ -144,11 +144,11 @@ run-lowest p n t (suc count) from a b =
     (ℕ_discrete from n))
 
 -- a run ascends
-run-above : (p : ℕ → Bool) (bound count from : ℕ) → bound < from → all (ltb bound) (run p from count) ≡ true
+run_above : (p : ℕ → Bool) (bound count from : ℕ) → bound < from → all (ltb bound) (run p from count) ≡ true
 unfolding run
-run-above p bound zero from h = refl
-run-above p bound (suc count) from h =
-    let rest = run-above p bound count (suc from) (omega arith) in
+run_above p bound zero from h = refl
+run_above p bound (suc count) from h =
+    let rest = run_above p bound count (suc from) (omega arith) in
     by_bool (p from) (λ t. rw t (and_both (ltb bound from) _ (lt-ltb bound from h) rest)) (λ f. rw f rest)
 
 pub run-ascending : (p : ℕ → Bool) (count from : ℕ) → ascending (run p from count) ≡ true
@@ -156,4 +156,4 @@ unfolding run
 run-ascending p zero from = refl
 run-ascending p (suc count) from =
     let rest = run-ascending p count (suc from) in
-    by_bool (p from) (λ t. rw t (and_both (all (ltb from) (run p (suc from) count)) _ (run-above p from count (suc from) (omega arith)) rest)) (λ f. rw f rest)
+    by_bool (p from) (λ t. rw t (and_both (all (ltb from) (run p (suc from) count)) _ (run_above p from count (suc from) (omega arith)) rest)) (λ f. rw f rest)

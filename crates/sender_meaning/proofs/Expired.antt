@@ -14,18 +14,18 @@ use lib.ListN.{length, take}
 use lib.Seq.{take-nil}
 use Rattle.terms.proofs.Laws.{case, and_left, and_right, and_both}
 use Rattle.terms.specs.Lists.{all}
-use Rattle.timer.specs.Timer.{rtoOf}
+use Rattle.timer.specs.Timer.{rto_of}
 use Rattle.receiver_ack.specs.Missing.{ascending}
 use Rattle.receiver_ack.proofs.Among.{ascending-take}
-use Rattle.sender_state.specs.Table.{isWaiting, isFlying, placeOf}
+use Rattle.sender_state.specs.Table.{is_waiting, is_flying, place_of}
 use Rattle.sender_state.specs.declared.Sender.{Sender}
-use Rattle.sender_state.specs.Numbers.{run, markedWith, inFlight}
-use Rattle.sender_resend.specs.Resend.{runWhile, aged, expiredOf, isIn}
-use Rattle.sender_meaning.specs.Meaning.{Standing, unmade, waits, flies, gone, mark_of, sentOf, standing, doesFly}
-use Rattle.sender_meaning.specs.Steps.{isOld, IsExpired}
+use Rattle.sender_state.specs.Numbers.{run, marked_with, in_flight}
+use Rattle.sender_resend.specs.Resend.{run_while, aged, expired_of, is_in}
+use Rattle.sender_meaning.specs.Meaning.{Standing, unmade, waits, flies, gone, mark_of, sent_of, standing, does_fly}
+use Rattle.sender_meaning.specs.Steps.{is_old, IsExpired}
 use Rattle.sender_meaning.proofs.Counts.{by_bool, run-within, run-ascending}
 use Rattle.sender_meaning.proofs.Stands.{flies-told}
-use Rattle.sender_meaning.proofs.Again.{all-while}
+use Rattle.sender_meaning.proofs.Again.{all_while}
 
 -- a number is in the front of a run: it and every lower one of the run pass, and those are fewer than it may have
 module _ (p a : ℕ → Bool) (n : ℕ) where
@@ -42,9 +42,9 @@ module _ (p a : ℕ → Bool) (n : ℕ) where
   unfolding run
   fewer from h t = let e : n - from ≡ suc (n - suc from) = omega arith in rw (e, t)
 
-  as-few : (from : ℕ) → from < n → (p from ≡ true → ⊥) → length (run p from (n - from)) ≡ length (run p (suc from) (n - suc from))
+  as_few : (from : ℕ) → from < n → (p from ≡ true → ⊥) → length (run p from (n - from)) ≡ length (run p (suc from) (n - suc from))
   unfolding run
-  as-few from h o = let e : n - from ≡ suc (n - suc from) = omega arith in rw e (by_bool (p from) (λ t. absurd (o t)) (λ f. rw f))
+  as_few from h o = let e : n - from ≡ suc (n - suc from) = omega arith in rw e (by_bool (p from) (λ t. absurd (o t)) (λ f. rw f))
 
   -- a front from a number on, by one from the next number on
   more : (from count most most' : ℕ) → Front (suc from) count most → (p from ≡ true → a from ≡ true) → length (run p from (n - from)) < most' → Front from (suc count) most'
@@ -71,11 +71,11 @@ module _ (p a : ℕ → Bool) (n : ℕ) where
     few = few;
   }
 
-  in-front-of : (count from most : ℕ) → isIn (take most (runWhile a (run p from count))) n ≡ true → Front from count most
+  in_front_of : (count from most : ℕ) → is_in (take most (run_while a (run p from count))) n ≡ true → Front from count most
   unfolding run
-  in-front-of zero from most t = absurd (true≢false (sym t ∙ ap (λ (l : List ℕ). isIn l n) (take-nil most)))
-  in-front-of (suc count) from zero t = absurd (true≢false (sym t))
-  in-front-of (suc count) from (suc most) t =
+  in_front_of zero from most t = absurd (true≢false (sym t ∙ ap (λ (l : List ℕ). is_in l n) (take-nil most)))
+  in_front_of (suc count) from zero t = absurd (true≢false (sym t))
+  in_front_of (suc count) from (suc most) t =
       by_bool (p from)
       (λ e.
       by_bool (a from)
@@ -92,20 +92,20 @@ module _ (p a : ℕ → Bool) (n : ℕ) where
         few = rw none (omega arith);
       })
       (λ (o : from ≡ n → ⊥).
-      let f = in-front-of count (suc from) most (rw (e, old, ne_eqb from n o) at t) in
+      let f = in_front_of count (suc from) most (rw (e, old, ne_eqb from n o) at t) in
       more from count most (suc most) f (λ _. old) (omega (arith, f.few, fewer from f.above e)))
       (ℕ_discrete from n))
       (λ young. absurd (true≢false (sym (rw (e, young) at t)))))
       (λ skips.
-      let f = in-front-of count (suc from) (suc most) (rw skips at t) in
+      let f = in_front_of count (suc from) (suc most) (rw skips at t) in
       let o : p from ≡ true → ⊥ = λ x. true≢false (sym x ∙ skips) in
-      more from count (suc most) (suc most) f (λ x. absurd (o x)) (omega (arith, f.few, as-few from f.above o)))
+      more from count (suc most) (suc most) f (λ x. absurd (o x)) (omega (arith, f.few, as_few from f.above o)))
 
-  of-front : (count from most : ℕ) → Front from count most → isIn (take most (runWhile a (run p from count))) n ≡ true
+  of_front : (count from most : ℕ) → Front from count most → is_in (take most (run_while a (run p from count))) n ≡ true
   unfolding run
-  of-front zero from most f = absurd (omega (arith, f.above, f.below))
-  of-front (suc count) from zero f = absurd (omega (arith, f.few))
-  of-front (suc count) from (suc most) f =
+  of_front zero from most f = absurd (omega (arith, f.above, f.below))
+  of_front (suc count) from zero f = absurd (omega (arith, f.few))
+  of_front (suc count) from (suc most) f =
       case
       (λ (q : from ≡ n). rw (ap p q ∙ f.passes, ap a q ∙ f.old, eq-eqb from n q))
       (λ (o : from ≡ n → ⊥).
@@ -113,77 +113,77 @@ module _ (p a : ℕ → Bool) (n : ℕ) where
       by_bool (p from)
       (λ e.
       rw (e, f.lower from (omega arith) h e, ne_eqb from n o)
-      (of-front count (suc from) most (less from count (suc most) most f h (omega (arith, f.few, fewer from h e)))))
+      (of_front count (suc from) most (less from count (suc most) most f h (omega (arith, f.few, fewer from h e)))))
       (λ skips.
       rw skips
-      (of-front count (suc from) (suc most)
-      (less from count (suc most) (suc most) f h (omega (arith, f.few, as-few from h (λ x. true≢false (sym x ∙ skips))))))))
+      (of_front count (suc from) (suc most)
+      (less from count (suc most) (suc most) f h (omega (arith, f.few, as_few from h (λ x. true≢false (sym x ∙ skips))))))))
       (ℕ_discrete from n)
 
 -- what is old flies, and its age is by the time at which it was sent
-old-flies : (rto clock : ℕ) (x : Standing) → isOld rto clock x ≡ true → doesFly x ≡ true
+old-flies : (rto clock : ℕ) (x : Standing) → is_old rto clock x ≡ true → does_fly x ≡ true
 old-flies rto clock unmade t = absurd (true≢false (sym t))
 old-flies rto clock (waits packet) t = absurd (true≢false (sym t))
 old-flies rto clock (flies packet sent) t = refl
 old-flies rto clock gone t = absurd (true≢false (sym t))
 
 module _ (s : Sender) (store : List ℕ) where
-  old-told : (rto clock n : ℕ) → doesFly (standing s store n) ≡ true → isOld rto clock (standing s store n) ≡ ltb rto (clock - sentOf s n)
+  old-told : (rto clock n : ℕ) → does_fly (standing s store n) ≡ true → is_old rto clock (standing s store n) ≡ ltb rto (clock - sent_of s n)
   unfolding standing
   old-told rto clock n t =
       by_bool (leb s.next.0 n)
       (λ e. absurd (true≢false (sym (rw e at t))))
       (λ e.
-      by_bool (isWaiting (mark_of s n))
+      by_bool (is_waiting (mark_of s n))
       (λ w. absurd (true≢false (sym (rw (e, w) at t))))
       (λ w.
-      by_bool (isFlying (mark_of s n))
+      by_bool (is_flying (mark_of s n))
       (λ f. rw (e, w, f))
       (λ f. absurd (true≢false (sym (rw (e, w, f) at t))))))
 
   -- the numbers in flight are those below next that fly
-  in-flight-run : inFlight s ≡ run (λ n. doesFly (standing s store n)) 0 s.next.0
-  in-flight-run =
-      run-within (λ n. markedWith 2 s.marks (placeOf s.numbers n)) (λ n. doesFly (standing s store n)) s.next.0 0
+  in_flight_run : in_flight s ≡ run (λ n. does_fly (standing s store n)) 0 s.next.0
+  in_flight_run =
+      run-within (λ n. marked_with 2 s.marks (place_of s.numbers n)) (λ n. does_fly (standing s store n)) s.next.0 0
       (λ n a b. let h : n < s.next.0 = omega arith in rw (lt-ltb n s.next.0 h) at (flies-told s store n))
 
   -- expired are the numbers whose standing, and that of every lower one, says so
-  pub expired-is : (clock n : ℕ) → (isIn (expiredOf s clock) n ≡ true) ↔ IsExpired s store clock n
-  expired-is clock n =
-      let p : ℕ → Bool = λ m. doesFly (standing s store m) in
-      let rto = rtoOf s.timing in
+  pub expired_is : (clock n : ℕ) → (is_in (expired_of s clock) n ≡ true) ↔ IsExpired s store clock n
+  expired_is clock n =
+      let p : ℕ → Bool = λ m. does_fly (standing s store m) in
+      let rto = rto_of s.timing in
       let a = aged s.numbers s.sent clock rto in (
         λ t.
-            let f = in-front-of p a n s.next.0 0 s.window (rw in-flight-run at t) in
+            let f = in_front_of p a n s.next.0 0 s.window (rw in_flight_run at t) in
             record {
               old = old-told rto clock n f.passes ∙ f.old;
-              lower-old = λ m h e. old-told rto clock m e ∙ f.lower m (omega arith) h e;
+              lower_old = λ m h e. old-told rto clock m e ∙ f.lower m (omega arith) h e;
               few = let few = rw (sub-zero n) at f.few in omega (arith, few);
             },
         λ e.
             let flying = old-flies rto clock (standing s store n) e.old in
-            rw in-flight-run
-            (of-front p a n s.next.0 0 s.window
+            rw in_flight_run
+            (of_front p a n s.next.0 0 s.window
             (record {
               above = omega arith;
               below = omega (arith, ltb-true n s.next.0 (and_left (ltb n s.next.0) _ (flies-told s store n ∙ flying)));
               passes = flying;
               old = sym (old-told rto clock n flying) ∙ e.old;
-              lower = λ m x h g. sym (old-told rto clock m g) ∙ e.lower-old m h g;
+              lower = λ m x h g. sym (old-told rto clock m g) ∙ e.lower_old m h g;
               few = rw (sub-zero n) (omega (arith, e.few));
             })),
       )
 
 -- and they ascend
-ascending-while : (p : ℕ → Bool) (l : List ℕ) → ascending l ≡ true → ascending (runWhile p l) ≡ true
-ascending-while p [] t = refl
-ascending-while p (x ∷ l) t =
+ascending_while : (p : ℕ → Bool) (l : List ℕ) → ascending l ≡ true → ascending (run_while p l) ≡ true
+ascending_while p [] t = refl
+ascending_while p (x ∷ l) t =
     by_bool (p x)
-    (λ e. rw e (and_both (all (ltb x) (runWhile p l)) _ (all-while (ltb x) p l (and_left (all (ltb x) l) _ t)) (ascending-while p l (and_right (all (ltb x) l) (ascending l) t))))
+    (λ e. rw e (and_both (all (ltb x) (run_while p l)) _ (all_while (ltb x) p l (and_left (all (ltb x) l) _ t)) (ascending_while p l (and_right (all (ltb x) l) (ascending l) t))))
     (λ e. rw e)
 
-pub expired-ascending : (s : Sender) (clock : ℕ) → ascending (expiredOf s clock) ≡ true
-expired-ascending s clock =
-    ascending-take s.window (runWhile (aged s.numbers s.sent clock (rtoOf s.timing)) (inFlight s))
-    (ascending-while (aged s.numbers s.sent clock (rtoOf s.timing)) (inFlight s)
-    (run-ascending (λ n. markedWith 2 s.marks (placeOf s.numbers n)) s.next.0 0))
+pub expired_ascending : (s : Sender) (clock : ℕ) → ascending (expired_of s clock) ≡ true
+expired_ascending s clock =
+    ascending-take s.window (run_while (aged s.numbers s.sent clock (rto_of s.timing)) (in_flight s))
+    (ascending_while (aged s.numbers s.sent clock (rto_of s.timing)) (in_flight s)
+    (run-ascending (λ n. marked_with 2 s.marks (place_of s.numbers n)) s.next.0 0))

@@ -10,74 +10,74 @@ use borrow.Author.Tests.{le-leb, leb-false}
 use lib.Dec.{leb, ltb}
 use lib.ListN.{length}
 use Rattle.terms.specs.Ladder.{◌when◌else◌}
-use Rattle.terms.specs.Lists.{◌atFrontOf◌}
+use Rattle.terms.specs.Lists.{◌at_front_of◌}
 use Rattle.terms.proofs.Laws.{case, past}
 use Rattle.terms.specs.Answers.{refusal, values}
-use Rattle.sender_state.specs.Table.{◌!◌, placeOf}
-use Rattle.sender_state.specs.Rules.{rules, sizesFit}
+use Rattle.sender_state.specs.Table.{◌!◌, place_of}
+use Rattle.sender_state.specs.Rules.{rules, sizes_fit}
 use Rattle.sender_state.specs.declared.Sender.{Sender}
-use Rattle.sender_state.specs.Numbers.{inFlight, size_of, storedPacket}
-use Rattle.sender_send.specs.Fetch.{fetchSaid, fetchOf}
-use Rattle.sender_send.proofs.Ranks.{Ranked, ranked-of}
+use Rattle.sender_state.specs.Numbers.{in_flight, size_of, stored_packet}
+use Rattle.sender_send.specs.Fetch.{fetch_said, fetch_of}
+use Rattle.sender_send.proofs.Ranks.{Ranked, ranked_of}
 use Rattle.sender_meaning.specs.Meaning.{flies, standing, Sound}
-use Rattle.sender_meaning.specs.Steps.{isFair}
+use Rattle.sender_meaning.specs.Steps.{is_fair}
 use Rattle.sender_meaning.specs.Changes.{Fetched}
-use Rattle.sender_meaning.proofs.Counts.{fair-rung}
-use Rattle.sender_meaning.proofs.Stands.{flies-at, stands_at, place-long}
+use Rattle.sender_meaning.proofs.Counts.{fair_rung}
+use Rattle.sender_meaning.proofs.Stands.{flies_at, stands_at, place_long}
 
 module _ (s : Sender) (rank : ℕ) (store output : List ℕ) where
-  fetch-is : fetchSaid s rank (length store) (length output) ≡ (fetchOf s rank store output).says
-  unfolding fetchOf
+  fetch-is : fetch_said s rank (length store) (length output) ≡ (fetch_of s rank store output).says
+  unfolding fetch_of
   fetch-is = refl
 
   -- a refusal changes nothing
-  pub fetch-nothing : (n : ℕ) → (fetchOf s rank store output).says ≡ refusal n → (fetchOf s rank store output).output ≡ output
-  unfolding fetchOf
+  pub fetch-nothing : (n : ℕ) → (fetch_of s rank store output).says ≡ refusal n → (fetch_of s rank store output).output ≡ output
+  unfolding fetch_of
   fetch-nothing n e = rw (fetch-is ∙ e)
 
   module _ (sound : Sound s store) where
-    module _ (inside : rank < length (inFlight s)) where
-      there : Ranked s sound.numbers-long sound.marks-long (omega (arith, sound.width)) 2 rank (inFlight s ! rank)
-      there = ranked-of s sound.numbers-long sound.marks-long (omega (arith, sound.width)) 2 rank (omega arith) inside
+    module _ (inside : rank < length (in_flight s)) where
+      there : Ranked s sound.numbers-long sound.marks-long (omega (arith, sound.width)) 2 rank (in_flight s ! rank)
+      there = ranked_of s sound.numbers-long sound.marks-long (omega (arith, sound.width)) 2 rank (omega arith) inside
 
-      packet-long : length (storedPacket s store (inFlight s ! rank)) ≡ size_of s (inFlight s ! rank)
-      packet-long = place-long s store sound (placeOf s.numbers (inFlight s ! rank)) there.place (λ z. omega (arith, there.marked))
+      packet-long : length (stored_packet s store (in_flight s ! rank)) ≡ size_of s (in_flight s ! rank)
+      packet-long = place_long s store sound (place_of s.numbers (in_flight s ! rank)) there.place (λ z. omega (arith, there.marked))
 
-    pub fetch-gives : (given : List ℕ) → (fetchOf s rank store output).says ≡ values given → Fetched s rank store output given
-    unfolding fetchOf fetchSaid
+    pub fetch-gives : (given : List ℕ) → (fetch_of s rank store output).says ≡ values given → Fetched s rank store output given
+    unfolding fetch_of fetch_said
     fetch-gives given done =
         let p11 = past 11 (not (rules s)) _ given (fetch-is ∙ done) in
-        let p10 = past 10 (not (sizesFit s.chunk s.count (length store))) _ given p11.1 in
-        let p17 = past 17 (leb (length (inFlight s)) rank) _ given p10.1 in
-        let p7 = past 7 (ltb (length output) (size_of s (inFlight s ! rank))) _ given p17.1 in
-        let inside : rank < length (inFlight s) = leb-false _ _ p17.0 in
-        let place = placeOf s.numbers (inFlight s ! rank) in
+        let p10 = past 10 (not (sizes_fit s.chunk s.count (length store))) _ given p11.1 in
+        let p17 = past 17 (leb (length (in_flight s)) rank) _ given p10.1 in
+        let p7 = past 7 (ltb (length output) (size_of s (in_flight s ! rank))) _ given p17.1 in
+        let inside : rank < length (in_flight s) = leb-false _ _ p17.0 in
+        let place = place_of s.numbers (in_flight s ! rank) in
         let full : s.marks ! place ≡ 0 → ⊥ = λ z. omega (arith, (there inside).marked) in
         record {
-          packet = storedPacket s store (inFlight s ! rank);
+          packet = stored_packet s store (in_flight s ! rank);
           sent = s.sent ! place;
           inside = inside;
-          is = ap (standing s store) (sym (there inside).has) ∙ stands_at s store sound place (there inside).place full ∙ flies-at s store place (there inside).marked;
+          is = ap (standing s store) (sym (there inside).has) ∙ stands_at s store sound place (there inside).place full ∙ flies_at s store place (there inside).marked;
           gives = let i = p7.1 in rw (packet-long inside) (cc);
           output-is = rw done;
         }
 
     -- its answer in a sound state
-    pub fetch-answer : (fetchOf s rank store output).says
-        ≡ (refusal 17 when leb (length (inFlight s)) rank else
-        refusal 7 when ltb (length output) (length (storedPacket s store (inFlight s ! rank))) else
-        values (length (storedPacket s store (inFlight s ! rank)) ∷ []))
-    unfolding fetchSaid
+    pub fetch-answer : (fetch_of s rank store output).says
+        ≡ (refusal 17 when leb (length (in_flight s)) rank else
+        refusal 7 when ltb (length output) (length (stored_packet s store (in_flight s ! rank))) else
+        values (length (stored_packet s store (in_flight s ! rank)) ∷ []))
+    unfolding fetch_said
     fetch-answer =
         sym fetch-is ∙ rw (sound.keeps, sound.fits)
         (case
-        (λ (q : length (inFlight s) ≤ rank). rw (le-leb (length (inFlight s)) rank q))
-        (λ (q : length (inFlight s) ≤ rank → ⊥). rw (packet-long (omega arith)))
-        (dec_le (length (inFlight s)) rank))
+        (λ (q : length (in_flight s) ≤ rank). rw (le-leb (length (in_flight s)) rank q))
+        (λ (q : length (in_flight s) ≤ rank → ⊥). rw (packet-long (omega arith)))
+        (dec_le (length (in_flight s)) rank))
 
     -- none blames the rules or the sizes
-    pub fetch-fair : isFair (fetchOf s rank store output).says ≡ true
-    fetch-fair =
+    pub fetch_fair : is_fair (fetch_of s rank store output).says ≡ true
+    fetch_fair =
         rw fetch-answer
-        (fair-rung 17 (leb (length (inFlight s)) rank) _ refl
-        (fair-rung 7 (ltb (length output) (length (storedPacket s store (inFlight s ! rank)))) _ refl refl))
+        (fair_rung 17 (leb (length (in_flight s)) rank) _ refl
+        (fair_rung 7 (ltb (length output) (length (stored_packet s store (in_flight s ! rank)))) _ refl refl))

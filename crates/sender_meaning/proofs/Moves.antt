@@ -10,66 +10,66 @@ use borrow.Author.Tests.{le-leb, eq-eqb, ne_eqb, leb-true}
 use lib.ListN.{length, set, length-set}
 use lib.Seq.{get_or-set_same, get_or-set_other}
 use Rattle.terms.proofs.Laws.{case}
-use Rattle.sender_state.specs.Table.{◌!◌, countOf}
-use Rattle.sender_state.specs.Rules.{timerFits}
+use Rattle.sender_state.specs.Table.{◌!◌, count_of}
+use Rattle.sender_state.specs.Rules.{timer_fits}
 use Rattle.sender_state.specs.declared.Sender.{Sender}
 use Rattle.sender_state.specs.declared.Timer.{Timer}
 use Rattle.sender_state.specs.declared.Timer.TheVariants as T
-use Rattle.sender_state.proofs.Facts.{Ruled, rules-of}
+use Rattle.sender_state.proofs.Facts.{Ruled, rules_of_lem}
 use Rattle.sender_send.specs.Send.{armed, moved}
 use Rattle.sender_meaning.specs.Meaning.{Standing, unmade, waits, flies, gone, standing, Sound}
-use Rattle.sender_meaning.specs.Steps.{sentAs}
+use Rattle.sender_meaning.specs.Steps.{sent_as}
 use Rattle.sender_meaning.proofs.Counts.{count_set}
-use Rattle.sender_meaning.proofs.Stands.{waits-at, flies-at, at_same, unmade-from, facts, one_place, where-is, nowhere-gone, stands_at}
+use Rattle.sender_meaning.proofs.Stands.{waits_at, flies_at, at_same, unmade_from, facts, one_place, where_is, nowhere_gone, stands_at}
 
 -- a timer that was in time still is, and so is one that is armed now
-pub later-fits : (timer : Timer) (last clock : ℕ) → timerFits timer last ≡ true → last ≤ clock → timerFits timer clock ≡ true
-unfolding timerFits
+pub later-fits : (timer : Timer) (last clock : ℕ) → timer_fits timer last ≡ true → last ≤ clock → timer_fits timer clock ≡ true
+unfolding timer_fits
 later-fits T.Unarmed last clock f a = refl
 later-fits (T.At due) last clock f a = let d = leb-true due (last + 60000) f in le-leb due (clock + 60000) (omega arith)
 
-pub armed-fits : (timer : Timer) (last clock rto : ℕ) → timerFits timer last ≡ true → last ≤ clock → rto ≤ 60000 → timerFits (armed timer (clock + rto)) clock ≡ true
-unfolding timerFits armed
+pub armed-fits : (timer : Timer) (last clock rto : ℕ) → timer_fits timer last ≡ true → last ≤ clock → rto ≤ 60000 → timer_fits (armed timer (clock + rto)) clock ≡ true
+unfolding timer_fits armed
 armed-fits T.Unarmed last clock rto f a b = le-leb (clock + rto) (clock + 60000) (omega arith)
 armed-fits (T.At due) last clock rto f a b = later-fits (T.At due) last clock f a
 
 -- a packet of a place that waits moves in flight
 module _ (s : Sender) (store : List ℕ) (sound : Sound s store) (place : ℕ) (inside : place < 192) (Waits-there : s.marks ! place ≡ 1)
     (lowest : (j : ℕ) → j < 192 → s.marks ! j ≡ 1 → s.numbers ! place ≤ s.numbers ! j) (clock : ℕ) (later : s.clock ≤ clock) where
-  mark-here : set s.marks place 2 ! place ≡ 2
-  mark-here = get_or-set_same s.marks place 2 0 (omega (arith, sound.marks-long))
+  mark_here : set s.marks place 2 ! place ≡ 2
+  mark_here = get_or-set_same s.marks place 2 0 (omega (arith, sound.marks-long))
 
-  mark-there : (i : ℕ) → (i ≡ place → ⊥) → set s.marks place 2 ! i ≡ s.marks ! i
-  mark-there i o = get_or-set_other s.marks place i 2 0 o
+  mark_there : (i : ℕ) → (i ≡ place → ⊥) → set s.marks place 2 ! i ≡ s.marks ! i
+  mark_there i o = get_or-set_other s.marks place i 2 0 o
 
-  sent-here : set s.sent place clock ! place ≡ clock
-  sent-here = get_or-set_same s.sent place clock 0 (omega (arith, sound.sent-long))
+  sent_here : set s.sent place clock ! place ≡ clock
+  sent_here = get_or-set_same s.sent place clock 0 (omega (arith, sound.sent-long))
 
-  sent-there : (i : ℕ) → (i ≡ place → ⊥) → set s.sent place clock ! i ≡ s.sent ! i
-  sent-there i o = get_or-set_other s.sent place i clock 0 o
+  sent_there : (i : ℕ) → (i ≡ place → ⊥) → set s.sent place clock ! i ≡ s.sent ! i
+  sent_there i o = get_or-set_other s.sent place i clock 0 o
 
   -- a place is free where it was
   was_free : (i : ℕ) → set s.marks place 2 ! i ≡ 0 → s.marks ! i ≡ 0
   was_free i z =
       case
-      (λ (e : i ≡ place). absurd (omega (arith, mark-here, rw e at z)))
-      (λ (o : i ≡ place → ⊥). sym (mark-there i o) ∙ z)
+      (λ (e : i ≡ place). absurd (omega (arith, mark_here, rw e at z)))
+      (λ (o : i ≡ place → ⊥). sym (mark_there i o) ∙ z)
       (ℕ_discrete i place)
 
   was-full : (i : ℕ) → (set s.marks place 2 ! i ≡ 0 → ⊥) → s.marks ! i ≡ 0 → ⊥
   was-full i n z =
       case
       (λ (e : i ≡ place). omega (arith, Waits-there, rw e at z))
-      (λ (o : i ≡ place → ⊥). n (mark-there i o ∙ z))
+      (λ (o : i ≡ place → ⊥). n (mark_there i o ∙ z))
       (ℕ_discrete i place)
 
   -- one that waits did so before, and is another
-  still-waits : (i : ℕ) → set s.marks place 2 ! i ≡ 1 → (i ≡ place → ⊥) × (s.marks ! i ≡ 1)
-  still-waits i w =
-      let o : i ≡ place → ⊥ = λ e. omega (arith, mark-here, rw e at w) in
-      (o, sym (mark-there i o) ∙ w)
+  still_waits : (i : ℕ) → set s.marks place 2 ! i ≡ 1 → (i ≡ place → ⊥) × (s.marks ! i ≡ 1)
+  still_waits i w =
+      let o : i ≡ place → ⊥ = λ e. omega (arith, mark_here, rw e at w) in
+      (o, sym (mark_there i o) ∙ w)
 
-  pub moved_keeps : countOf 2 s.marks < s.window → clock ≤ 1000000000000000 → (timer : Timer) → timerFits timer clock ≡ true → Ruled (moved s place clock timer)
+  pub moved_keeps : count_of 2 s.marks < s.window → clock ≤ 1000000000000000 → (timer : Timer) → timer_fits timer clock ≡ true → Ruled (moved s place clock timer)
   moved_keeps room most timer due =
       let r = facts s store sound in
       let l : length (set s.marks place 2) ≡ length s.marks = length-set s.marks place 2 in
@@ -78,91 +78,91 @@ module _ (s : Sender) (store : List ℕ) (sound : Sound s store) (place : ℕ) (
         distinct = λ i j h k o a b. r.distinct i j (omega arith) (omega arith) o (was-full i a) (was-full j b);
         low = λ i h n. r.low i (omega arith) (was-full i n);
         order = λ i j h k f w.
-            let v = still-waits j w in
+            let v = still_waits j w in
             case
             (λ (e : i ≡ place).
             let below = lowest j (omega arith) v.1 in
             let apart : s.numbers ! place ≡ s.numbers ! j → ⊥ = r.distinct place j (omega arith) (omega arith) (λ q. v.0 (sym q)) (λ z. omega arith) (λ z. omega (arith, v.1)) in
             rw e (omega (arith, apart)))
-            (λ (o : i ≡ place → ⊥). r.order i j (omega arith) (omega arith) (sym (mark-there i o) ∙ f) v.1)
+            (λ (o : i ≡ place → ⊥). r.order i j (omega arith) (omega arith) (sym (mark_there i o) ∙ f) v.1)
             (ℕ_discrete i place);
         some = λ i h n. r.some i (omega arith) (was-full i n);
         next-some = r.next-some;
         shut = λ i h a.
             case
             (λ (e : i ≡ place). absurd (omega (arith, r.shut place (omega arith) (omega arith))))
-            (λ (o : i ≡ place → ⊥). mark-there i o ∙ r.shut i (omega arith) a)
+            (λ (o : i ≡ place → ⊥). mark_there i o ∙ r.shut i (omega arith) a)
             (ℕ_discrete i place);
         no_number = λ i h z. r.no_number i (omega arith) (was_free i z);
         no_length = λ i h z. r.no_length i (omega arith) (was_free i z);
-        no-time = λ i h z.
+        no_time = λ i h z.
             case
             (λ (e : i ≡ place). absurd (omega (arith, Waits-there, rw e at (was_free i z))))
-            (λ (o : i ≡ place → ⊥). sent-there i o ∙ r.no-time i (omega arith) (was_free i z))
+            (λ (o : i ≡ place → ⊥). sent_there i o ∙ r.no_time i (omega arith) (was_free i z))
             (ℕ_discrete i place);
-        no-resent = λ i h z. r.no-resent i (omega arith) (was_free i z);
-        not-sent = λ i h w. let v = still-waits i w in sent-there i v.0 ∙ r.not-sent i (omega arith) v.1;
-        unresent = λ i h w. r.unresent i (omega arith) (still-waits i w).1;
-        once-or-more = λ i h. r.once-or-more i (omega arith);
-        few = omega (arith, count_set 2 s.marks place (omega arith) (λ e. omega arith), r.window-most);
+        no_resent = λ i h z. r.no_resent i (omega arith) (was_free i z);
+        not-sent = λ i h w. let v = still_waits i w in sent_there i v.0 ∙ r.not-sent i (omega arith) v.1;
+        unresent = λ i h w. r.unresent i (omega arith) (still_waits i w).1;
+        once_or_more = λ i h. r.once_or_more i (omega arith);
+        few = omega (arith, count_set 2 s.marks place (omega arith) (λ e. omega arith), r.window_most);
         past = λ i h.
             case
-            (λ (e : i ≡ place). rw (e, sent-here) (omega arith))
-            (λ (o : i ≡ place → ⊥). rw (sent-there i o) (omega (arith, r.past i (omega arith))))
+            (λ (e : i ≡ place). rw (e, sent_here) (omega arith))
+            (λ (o : i ≡ place → ⊥). rw (sent_there i o) (omega (arith, r.past i (omega arith))))
             (ℕ_discrete i place);
         due = due;
         window-some = r.window-some;
-        window-most = r.window-most;
+        window_most = r.window_most;
         timing = r.timing;
         long = λ i h n. r.long i (omega arith) (was-full i n);
         short = λ i h n. r.short i (omega arith) (was-full i n);
-        clock-most = most;
+        clock_most = most;
         known = λ i h.
             case
-            (λ (e : i ≡ place). rw (e, mark-here) (omega arith))
-            (λ (o : i ≡ place → ⊥). rw (mark-there i o) (r.known i (omega arith)))
+            (λ (e : i ≡ place). rw (e, mark_here) (omega arith))
+            (λ (o : i ≡ place → ⊥). rw (mark_there i o) (r.known i (omega arith)))
             (ℕ_discrete i place);
       }
 
-  pub moved-sound : countOf 2 s.marks < s.window → clock ≤ 1000000000000000 → (timer : Timer) → timerFits timer clock ≡ true → Sound (moved s place clock timer) store
+  pub moved-sound : count_of 2 s.marks < s.window → clock ≤ 1000000000000000 → (timer : Timer) → timer_fits timer clock ≡ true → Sound (moved s place clock timer) store
   moved-sound room most timer due = record {
     numbers-long = sound.numbers-long;
     lengths-long = sound.lengths-long;
     sent-long = simp length-set sound.sent-long;
     resent-long = sound.resent-long;
     marks-long = simp length-set sound.marks-long;
-    keeps = rules-of (moved s place clock timer) (moved_keeps room most timer due);
+    keeps = rules_of_lem (moved s place clock timer) (moved_keeps room most timer due);
     fits = sound.fits;
     width = sound.width;
   }
 
-  other-stays : (n : ℕ) → (n ≡ s.numbers ! place → ⊥) → (x : Standing) → x ≡ sentAs (s.numbers ! place) clock n x
-  other-stays n o unmade = refl
-  other-stays n o (waits packet) = rw (ne_eqb n (s.numbers ! place) o)
-  other-stays n o (flies packet sent) = refl
-  other-stays n o gone = refl
+  other_stays : (n : ℕ) → (n ≡ s.numbers ! place → ⊥) → (x : Standing) → x ≡ sent_as (s.numbers ! place) clock n x
+  other_stays n o unmade = refl
+  other_stays n o (waits packet) = rw (ne_eqb n (s.numbers ! place) o)
+  other_stays n o (flies packet sent) = refl
+  other_stays n o gone = refl
 
   -- its number flies, and every other stands as it stood
   pub moved-means : (timer : Timer) → Sound (moved s place clock timer) store → (n : ℕ)
-      → standing (moved s place clock timer) store n ≡ sentAs (s.numbers ! place) clock n (standing s store n)
+      → standing (moved s place clock timer) store n ≡ sent_as (s.numbers ! place) clock n (standing s store n)
   moved-means timer after n =
       let t = moved s place clock timer in
-      where-is s store sound n
-      (λ a. unmade-from t store n a ∙ sym (ap (sentAs (s.numbers ! place) clock n) (unmade-from s store n a)))
+      where_is s store sound n
+      (λ a. unmade_from t store n a ∙ sym (ap (sent_as (s.numbers ! place) clock n) (unmade_from s store n a)))
       (λ a f.
-      nowhere-gone t store after n a (λ i h o e. f i h (was-full i o) e)
-      ∙ sym (ap (sentAs (s.numbers ! place) clock n) (nowhere-gone s store sound n a f)))
+      nowhere_gone t store after n a (λ i h o e. f i h (was-full i o) e)
+      ∙ sym (ap (sent_as (s.numbers ! place) clock n) (nowhere_gone s store sound n a f)))
       (λ i h o e.
       case
       (λ (q : i ≡ place).
-      let full : t.marks ! place ≡ 0 → ⊥ = λ z. omega (arith, mark-here) in
+      let full : t.marks ! place ≡ 0 → ⊥ = λ z. omega (arith, mark_here) in
       let is : n ≡ s.numbers ! place = sym e ∙ ap (λ (k : ℕ). s.numbers ! k) q in
       rw is
-      (stands_at t store after place inside full ∙ flies-at t store place mark-here
-      ∙ rw (sent-here, stands_at s store sound place inside (λ z. omega arith) ∙ waits-at s store place Waits-there, eq-eqb (s.numbers ! place) (s.numbers ! place) refl)))
+      (stands_at t store after place inside full ∙ flies_at t store place mark_here
+      ∙ rw (sent_here, stands_at s store sound place inside (λ z. omega arith) ∙ waits_at s store place Waits-there, eq-eqb (s.numbers ! place) (s.numbers ! place) refl)))
       (λ (q : i ≡ place → ⊥).
-      let full : t.marks ! i ≡ 0 → ⊥ = λ z. o (sym (mark-there i q) ∙ z) in
+      let full : t.marks ! i ≡ 0 → ⊥ = λ z. o (sym (mark_there i q) ∙ z) in
       let apart : n ≡ s.numbers ! place → ⊥ = λ z. q (one_place s store sound i place h inside o (λ y. omega arith) (e ∙ z)) in
-      let same = stands_at t store after i h full ∙ at_same s t store i refl refl (sent-there i q) (mark-there i q) ∙ sym (stands_at s store sound i h o) in
-      ap (standing t store) (sym e) ∙ same ∙ ap (standing s store) e ∙ other-stays n apart (standing s store n))
+      let same = stands_at t store after i h full ∙ at_same s t store i refl refl (sent_there i q) (mark_there i q) ∙ sym (stands_at s store sound i h o) in
+      ap (standing t store) (sym e) ∙ same ∙ ap (standing s store) e ∙ other_stays n apart (standing s store n))
       (ℕ_discrete i place))

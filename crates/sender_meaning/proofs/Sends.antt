@@ -11,139 +11,139 @@ use borrow.Author.Tests.{lt-ltb, le-leb, ltb-true}
 use lib.Dec.{leb, ltb}
 use lib.ListN.{length}
 use Rattle.terms.specs.Ladder.{◌when◌else◌}
-use Rattle.terms.specs.Lists.{◌atFrontOf◌}
+use Rattle.terms.specs.Lists.{◌at_front_of◌}
 use Rattle.terms.proofs.Laws.{case, and_left, and_right}
 use Rattle.terms.specs.Answers.{Said, refusal, values}
 use Rattle.receiver_calls.proofs.Laws.{by_said}
-use Rattle.timer.specs.Timer.{rtoOf}
-use Rattle.timer.proofs.Laws.{rto-most}
-use Rattle.sender_state.specs.Table.{◌!◌, placeOf}
-use Rattle.sender_state.specs.Rules.{timerFits, clockWrong}
+use Rattle.timer.specs.Timer.{rto_of}
+use Rattle.timer.proofs.Laws.{rto_most}
+use Rattle.sender_state.specs.Table.{◌!◌, place_of}
+use Rattle.sender_state.specs.Rules.{timer_fits, clock_wrong}
 use Rattle.sender_state.specs.declared.Sender.{Sender}
-use Rattle.sender_state.specs.Numbers.{markedWith, waiting, inFlight, size_of, storedPacket}
+use Rattle.sender_state.specs.Numbers.{marked_with, waiting, in_flight, size_of, stored_packet}
 use Rattle.sender_resend.specs.Resend.{is_empty}
-use Rattle.sender_send.specs.Send.{sendSaid, armed, departed, sendOf}
-use Rattle.sender_state.proofs.Runs.{run-passes, run-below}
-use Rattle.sender_send.proofs.Outcomes.{Leaves, leaves, send-refused, send-done}
-use Rattle.sender_send.proofs.Ranks.{Ranked, ranked-of}
-use Rattle.sender_meaning.specs.Meaning.{waits, standing, doesWait, Sound}
-use Rattle.sender_meaning.specs.Steps.{isFair, sentAs}
+use Rattle.sender_send.specs.Send.{send_said, armed, departed, send_of}
+use Rattle.sender_state.proofs.Runs.{run_passes, run-below}
+use Rattle.sender_send.proofs.Outcomes.{Leaves, leaves, send-refused, send_done}
+use Rattle.sender_send.proofs.Ranks.{Ranked, ranked_of}
+use Rattle.sender_meaning.specs.Meaning.{waits, standing, does_wait, Sound}
+use Rattle.sender_meaning.specs.Steps.{is_fair, sent_as}
 use Rattle.sender_meaning.specs.Changes.{Departs}
-use Rattle.sender_meaning.proofs.Counts.{none_in, fair-rung, run-lowest}
-use Rattle.sender_meaning.proofs.Stands.{place-long, in-flight-count, waits-at, facts, stands_at, waiting-is, waits-told}
+use Rattle.sender_meaning.proofs.Counts.{none_in, fair_rung, run-lowest}
+use Rattle.sender_meaning.proofs.Stands.{place_long, in_flight_count, waits_at, facts, stands_at, waiting-is, waits-told}
 use Rattle.sender_meaning.proofs.Moves.{armed-fits, moved-sound, moved-means}
 
 module _ (s : Sender) (clock : ℕ) (store output : List ℕ) where
-  send-is : sendSaid s clock (length store) (length output) ≡ (sendOf s clock store output).says
-  unfolding sendOf
+  send-is : send_said s clock (length store) (length output) ≡ (send_of s clock store output).says
+  unfolding send_of
   send-is = refl
 
   -- a refusal changes nothing
-  pub send-nothing : (n : ℕ) → (sendOf s clock store output).says ≡ refusal n → ((sendOf s clock store output).state ≡ s) × ((sendOf s clock store output).lent ≡ output)
+  pub send-nothing : (n : ℕ) → (send_of s clock store output).says ≡ refusal n → ((send_of s clock store output).state ≡ s) × ((send_of s clock store output).lent ≡ output)
   send-nothing n e = let k = send-refused s clock store output n (send-is ∙ e) in (rw k, rw k)
 
   -- where a number waits, the lowest stands at a place, with its packet
   module _ (sound : Sound s store) (some : 0 < length (waiting s)) where
-    head-place : Ranked s sound.numbers-long sound.marks-long (omega (arith, sound.width)) 1 0 (waiting s ! 0)
-    head-place = ranked-of s sound.numbers-long sound.marks-long (omega (arith, sound.width)) 1 0 (omega arith) some
+    head_place : Ranked s sound.numbers-long sound.marks-long (omega (arith, sound.width)) 1 0 (waiting s ! 0)
+    head_place = ranked_of s sound.numbers-long sound.marks-long (omega (arith, sound.width)) 1 0 (omega arith) some
 
-    packet-long : length (storedPacket s store (waiting s ! 0)) ≡ size_of s (waiting s ! 0)
-    packet-long = place-long s store sound (placeOf s.numbers (waiting s ! 0)) head-place.place (λ z. omega (arith, head-place.marked))
+    packet-long : length (stored_packet s store (waiting s ! 0)) ≡ size_of s (waiting s ! 0)
+    packet-long = place_long s store sound (place_of s.numbers (waiting s ! 0)) head_place.place (λ z. omega (arith, head_place.marked))
 
-  module _ (given : List ℕ) (done : (sendOf s clock store output).says ≡ values given) (sound : Sound s store) where
+  module _ (given : List ℕ) (done : (send_of s clock store output).says ≡ values given) (sound : Sound s store) where
     left : Leaves s clock (length store) (length output) given
     left = leaves s clock (length store) (length output) given (send-is ∙ done)
 
     there : Ranked s sound.numbers-long sound.marks-long (omega (arith, sound.width)) 1 0 (waiting s ! 0)
-    there = head-place sound left.some
+    there = head_place sound left.some
 
-    became : ((sendOf s clock store output).state ≡ departed s clock) × ((sendOf s clock store output).lent ≡ storedPacket s store (waiting s ! 0) atFrontOf output)
-    became = let k = send-done s clock store output given (send-is ∙ done) in (rw k, rw k)
+    became : ((send_of s clock store output).state ≡ departed s clock) × ((send_of s clock store output).lent ≡ stored_packet s store (waiting s ! 0) at_front_of output)
+    became = let k = send_done s clock store output given (send-is ∙ done) in (rw k, rw k)
 
-    first : (n : ℕ) → doesWait (standing s store n) ≡ true → waiting s ! 0 ≤ n
+    first : (n : ℕ) → does_wait (standing s store n) ≡ true → waiting s ! 0 ≤ n
     first n t =
         let b = waits-told s store n ∙ t in
-        run-lowest (λ m. markedWith 1 s.marks (placeOf s.numbers m)) n (and_right (ltb n s.next.0) _ b) s.next.0 0 (omega arith)
+        run-lowest (λ m. marked_with 1 s.marks (place_of s.numbers m)) n (and_right (ltb n s.next.0) _ b) s.next.0 0 (omega arith)
         (omega (arith, ltb-true n s.next.0 (and_left (ltb n s.next.0) _ b)))
 
-    bottom : (j : ℕ) → j < 192 → s.marks ! j ≡ 1 → s.numbers ! placeOf s.numbers (waiting s ! 0) ≤ s.numbers ! j
+    bottom : (j : ℕ) → j < 192 → s.marks ! j ≡ 1 → s.numbers ! place_of s.numbers (waiting s ! 0) ≤ s.numbers ! j
     bottom j h w =
-        let t : doesWait (standing s store (s.numbers ! j)) ≡ true = rw (stands_at s store sound j h (λ z. omega arith) ∙ waits-at s store j w) in
+        let t : does_wait (standing s store (s.numbers ! j)) ≡ true = rw (stands_at s store sound j h (λ z. omega arith) ∙ waits_at s store j w) in
         omega (arith, there.has, first (s.numbers ! j) t)
 
-    due : timerFits (armed s.timer (clock + rtoOf s.timing)) clock ≡ true
-    due = armed-fits s.timer s.clock clock (rtoOf s.timing) (facts s store sound).due left.later (rto-most s.timing)
+    due : timer_fits (armed s.timer (clock + rto_of s.timing)) clock ≡ true
+    due = armed-fits s.timer s.clock clock (rto_of s.timing) (facts s store sound).due left.later (rto_most s.timing)
 
     departed-sound : Sound (departed s clock) store
     departed-sound =
-        moved-sound s store sound (placeOf s.numbers (waiting s ! 0)) there.place there.marked bottom clock left.later left.open-window left.clock-most
-        (armed s.timer (clock + rtoOf s.timing)) due
+        moved-sound s store sound (place_of s.numbers (waiting s ! 0)) there.place there.marked bottom clock left.later left.open_window left.clock_most
+        (armed s.timer (clock + rto_of s.timing)) due
 
-    pub send-changes : Departs s clock store output given
-    send-changes = record {
+    pub send_changes : Departs s clock store output given
+    send_changes = record {
       told = waiting s ! 0;
-      packet = storedPacket s store (waiting s ! 0);
+      packet = stored_packet s store (waiting s ! 0);
       gives = let i = left.is in rw (packet-long sound left.some) (cc);
-      was = ap (standing s store) (sym there.has) ∙ stands_at s store sound (placeOf s.numbers (waiting s ! 0)) there.place (λ z. omega (arith, there.marked))
-          ∙ waits-at s store (placeOf s.numbers (waiting s ! 0)) there.marked;
+      was = ap (standing s store) (sym there.has) ∙ stands_at s store sound (place_of s.numbers (waiting s ! 0)) there.place (λ z. omega (arith, there.marked))
+          ∙ waits_at s store (place_of s.numbers (waiting s ! 0)) there.marked;
       lowest = first;
       output-is = became.1;
-      now-is = λ n.
+      now_is = λ n.
           rw became.0
-          (moved-means s store sound (placeOf s.numbers (waiting s ! 0)) there.place there.marked bottom clock left.later
-          (armed s.timer (clock + rtoOf s.timing)) departed-sound n
-          ∙ ap (λ (k : ℕ). sentAs k clock n (standing s store n)) there.has);
+          (moved-means s store sound (place_of s.numbers (waiting s ! 0)) there.place there.marked bottom clock left.later
+          (armed s.timer (clock + rto_of s.timing)) departed-sound n
+          ∙ ap (λ (k : ℕ). sent_as k clock n (standing s store n)) there.has);
       next-is = ap (λ (x : Sender). x.next) became.0;
       chunk-is = ap (λ (x : Sender). x.chunk) became.0;
       count-is = ap (λ (x : Sender). x.count) became.0;
       clock-is = ap (λ (x : Sender). x.clock) became.0;
       later = left.later;
-      room = omega (arith, left.open-window, in-flight-count s store sound);
+      room = omega (arith, left.open_window, in_flight_count s store sound);
     }
 
   -- send keeps a sound state and store sound, whatever it is given
-  pub send-sound : Sound s store → Sound (sendOf s clock store output).state store
+  pub send-sound : Sound s store → Sound (send_of s clock store output).state store
   send-sound sound =
-      by_said (sendOf s clock store output).says
+      by_said (send_of s clock store output).says
       (λ n e. rw (send-nothing n e).0 sound)
       (λ given e. rw (became given e sound).0 (departed-sound given e sound))
 
   -- no number waits exactly if the list of those that wait is empty
-  pub nothing-waits : (is_empty (waiting s) ≡ true) ↔ ((n : ℕ) → doesWait (standing s store n) ≡ false)
+  pub nothing-waits : (is_empty (waiting s) ≡ true) ↔ ((n : ℕ) → does_wait (standing s store n) ≡ false)
   nothing-waits = (
     λ t n. sym (waiting-is s store n) ∙ none_in (waiting s) t n,
     λ f.
         case
         (λ (q : 0 < length (waiting s)).
-        let p : ℕ → Bool = λ m. markedWith 1 s.marks (placeOf s.numbers m) in
+        let p : ℕ → Bool = λ m. marked_with 1 s.marks (place_of s.numbers m) in
         let below : waiting s ! 0 < s.next.0 = omega (arith, run-below p s.next.0 0 0 q) in
         let Waits-there = waits-told s store (waiting s ! 0) in
-        absurd (true≢false ((rw (lt-ltb (waiting s ! 0) s.next.0 below, run-passes p s.next.0 0 0 q) at Waits-there) ∙ f (waiting s ! 0))))
+        absurd (true≢false ((rw (lt-ltb (waiting s ! 0) s.next.0 below, run_passes p s.next.0 0 0 q) at Waits-there) ∙ f (waiting s ! 0))))
         (λ (q : 0 < length (waiting s) → ⊥). le-leb (length (waiting s)) 0 (omega arith))
         (dec_lt 0 (length (waiting s))),
   )
 
   -- its answer in a sound state, past a wrong clock: 17 exactly if no number waits, 22 exactly if one does and as many fly as the window or more
-  pub send-answer : Sound s store → (sendOf s clock store output).says
-      ≡ (refusal 24 when clockWrong s.clock clock else
+  pub send-answer : Sound s store → (send_of s clock store output).says
+      ≡ (refusal 24 when clock_wrong s.clock clock else
       refusal 17 when is_empty (waiting s) else
-      refusal 22 when leb s.window (length (inFlight s)) else
-      refusal 7 when ltb (length output) (length (storedPacket s store (waiting s ! 0))) else
-      values ((waiting s ! 0) ∷ length (storedPacket s store (waiting s ! 0)) ∷ []))
-  unfolding sendSaid
+      refusal 22 when leb s.window (length (in_flight s)) else
+      refusal 7 when ltb (length output) (length (stored_packet s store (waiting s ! 0))) else
+      values ((waiting s ! 0) ∷ length (stored_packet s store (waiting s ! 0)) ∷ []))
+  unfolding send_said
   send-answer sound =
-      sym send-is ∙ rw (sound.keeps, sound.fits, in-flight-count s store sound)
-      (ap (λ (rest : Said). refusal 24 when clockWrong s.clock clock else rest)
+      sym send-is ∙ rw (sound.keeps, sound.fits, in_flight_count s store sound)
+      (ap (λ (rest : Said). refusal 24 when clock_wrong s.clock clock else rest)
       (case
       (λ (q : length (waiting s) ≤ 0). rw (le-leb (length (waiting s)) 0 q))
       (λ (q : length (waiting s) ≤ 0 → ⊥). rw (packet-long sound (omega arith)))
       (dec_le (length (waiting s)) 0)))
 
   -- none blames the rules or the sizes
-  pub send-fair : Sound s store → isFair (sendOf s clock store output).says ≡ true
-  send-fair sound =
+  pub send_fair : Sound s store → is_fair (send_of s clock store output).says ≡ true
+  send_fair sound =
       rw (send-answer sound)
-      (fair-rung 24 (clockWrong s.clock clock) _ refl
-      (fair-rung 17 (is_empty (waiting s)) _ refl
-      (fair-rung 22 (leb s.window (length (inFlight s))) _ refl
-      (fair-rung 7 (ltb (length output) (length (storedPacket s store (waiting s ! 0)))) _ refl refl))))
+      (fair_rung 24 (clock_wrong s.clock clock) _ refl
+      (fair_rung 17 (is_empty (waiting s)) _ refl
+      (fair_rung 22 (leb s.window (length (in_flight s))) _ refl
+      (fair_rung 7 (ltb (length output) (length (stored_packet s store (waiting s ! 0)))) _ refl refl))))

@@ -13,127 +13,127 @@ use Rattle.terms.specs.Ladder.{◌when◌else◌}
 use Rattle.terms.specs.Lists.{joined}
 use Rattle.terms.proofs.Laws.{case}
 use Rattle.terms.specs.Answers.{refusal, values}
-use Rattle.receiver_state.specs.Rules.{rulesOf, slotFits}
+use Rattle.receiver_state.specs.Rules.{rules_of, slot_fits}
 use Rattle.receiver_state.specs.declared.Receiver.{Receiver}
 use Rattle.receiver_calls.proofs.Laws.{by_said}
-use Rattle.receiver_ack.specs.Missing.{missingFrom}
-use Rattle.receiver_ack.specs.Fields.{atLeast255, ackThrough, fieldsFrom, nacksFrom}
-use Rattle.receiver_ack.proofs.Ways.{nacks-few, packet-long, packet-most}
-use Rattle.sender_state.specs.Table.{countOf}
+use Rattle.receiver_ack.specs.Missing.{missing_from}
+use Rattle.receiver_ack.specs.Fields.{at_least255, ack_through, fields_from, nacks_from}
+use Rattle.receiver_ack.proofs.Ways.{nacks_few, packet-long, packet_most}
+use Rattle.sender_state.specs.Table.{count_of}
 use Rattle.sender_state.specs.declared.Sender.{Sender}
 use Rattle.sender_state.specs.Numbers.{waiting}
 use Rattle.sender_resend.specs.Resend.{is_empty}
-use Rattle.sender_submit_answer.specs.Answer.{chunks_of, freeOf, submitSaid}
-use Rattle.sender_submit_answer.proofs.Lengths.{chunks-some}
-use Rattle.sender_submit.specs.Chunks.{dataPacket, storedBy}
-use Rattle.sender_submit.specs.Submit.{submitOf}
+use Rattle.sender_submit_answer.specs.Answer.{chunks_of, free_of, submit_said}
+use Rattle.sender_submit_answer.proofs.Lengths.{chunks_some}
+use Rattle.sender_submit.specs.Chunks.{data_packet, stored_by}
+use Rattle.sender_submit.specs.Submit.{submit_of}
 use Rattle.sender_submit.proofs.Ways.{Made, made}
 use Rattle.sender_meaning.specs.Meaning.{standing, Sound}
-use Rattle.sender_meaning.specs.Steps.{isFair, chunkAt, chunksFrom, submittedAs, isOutside}
+use Rattle.sender_meaning.specs.Steps.{is_fair, chunk_at, chunks_from, submitted_as, is_outside}
 use Rattle.sender_meaning.specs.Changes.{Stores}
-use Rattle.sender_meaning.proofs.Counts.{fair-rung}
+use Rattle.sender_meaning.proofs.Counts.{fair_rung}
 use Rattle.sender_meaning.proofs.Stands.{waiting-count}
-use Rattle.sender_meaning.proofs.SubmittingChunks.{chunks-are-bytes, chunk-some, chunk-most}
+use Rattle.sender_meaning.proofs.SubmittingChunks.{chunks_are_bytes, chunk-some, chunk_most}
 use Rattle.sender_meaning.proofs.SubmittingStored.{FitsPlaces, stores}
 
 -- a packet with the ack fields of any receiver fits a place
-pub packet-fits : (r : Receiver) (send recv : StreamId) (chunk : ℕ) → FitsPlaces (dataPacket r send recv) chunk
-unfolding fieldsFrom
+pub packet-fits : (r : Receiver) (send recv : StreamId) (chunk : ℕ) → FitsPlaces (data_packet r send recv) chunk
+unfolding fields_from
 packet-fits r send recv chunk =
-    let m = missingFrom r.head.next.0 r.head.highest.0 r.marks in
-    let nacks = nacksFrom r.head.next.0 r.head.highest.0 r.marks in
-    let through = ackThrough m r.head.highest.0 in
+    let m = missing_from r.head.next.0 r.head.highest.0 r.marks in
+    let nacks = nacks_from r.head.next.0 r.head.highest.0 r.marks in
+    let through = ack_through m r.head.highest.0 in
     record {
-      long = λ n payload. omega (arith, packet-long through send recv n nacks payload (atLeast255 m));
-      short = λ n payload h. omega (arith, packet-most through send recv n nacks payload (atLeast255 m) (nacks-few r.head.next.0 r.head.highest.0 r.marks));
+      long = λ n payload. omega (arith, packet-long through send recv n nacks payload (at_least255 m));
+      short = λ n payload h. omega (arith, packet_most through send recv n nacks payload (at_least255 m) (nacks_few r.head.next.0 r.head.highest.0 r.marks));
     }
 
 module _ (s : Sender) (r : Receiver) (send recv : StreamId) (bytes store : List ℕ) where
-  says_is : (submitOf s r send recv bytes store).says ≡ submitSaid s r (length bytes) (length store)
-  unfolding submitOf
+  says_is : (submit_of s r send recv bytes store).says ≡ submit_said s r (length bytes) (length store)
+  unfolding submit_of
   says_is = refl
 
   -- A refused submit leaves the state and the store.
-  pub submit-refused : (n : ℕ) → (submitOf s r send recv bytes store).says ≡ refusal n
-      → ((submitOf s r send recv bytes store).state ≡ s) × ((submitOf s r send recv bytes store).lent ≡ store)
-  unfolding submitOf
+  pub submit-refused : (n : ℕ) → (submit_of s r send recv bytes store).says ≡ refusal n
+      → ((submit_of s r send recv bytes store).state ≡ s) × ((submit_of s r send recv bytes store).lent ≡ store)
+  unfolding submit_of
   submit-refused n e = (rw e, rw e)
 
   -- What holds where packets are made.
-  pub submit-done : (given : List ℕ) → (submitOf s r send recv bytes store).says ≡ values given → Made s r (length bytes) (length store) given
-  submit-done given done = made s r (length bytes) (length store) given (sym says_is ∙ done)
+  pub submit_done : (given : List ℕ) → (submit_of s r send recv bytes store).says ≡ values given → Made s r (length bytes) (length store) given
+  submit_done given done = made s r (length bytes) (length store) given (sym says_is ∙ done)
 
-  module _ (count : ℕ) (done : (submitOf s r send recv bytes store).says ≡ values (count ∷ [])) where
+  module _ (count : ℕ) (done : (submit_of s r send recv bytes store).says ≡ values (count ∷ [])) where
     asked : Made s r (length bytes) (length store) (count ∷ [])
-    asked = submit-done (count ∷ []) done
+    asked = submit_done (count ∷ []) done
 
     count-is : count ≡ chunks_of s.chunk (length bytes)
     count-is = let e = asked.gives in cc
 
-    stored_is : ((submitOf s r send recv bytes store).state ≡ (storedBy (dataPacket r send recv) count bytes s store).state)
-        × ((submitOf s r send recv bytes store).lent ≡ (storedBy (dataPacket r send recv) count bytes s store).store)
-    unfolding submitOf
+    stored_is : ((submit_of s r send recv bytes store).state ≡ (stored_by (data_packet r send recv) count bytes s store).state)
+        × ((submit_of s r send recv bytes store).lent ≡ (stored_by (data_packet r send recv) count bytes s store).store)
+    unfolding submit_of
     stored_is = (rw (done, count-is), rw (done, count-is))
 
     -- How many: as many as the bytes make chunks, and at least one.
     pub submit-count : (count ≡ chunks_of s.chunk (length bytes)) × (1 ≤ count)
     submit-count =
         let d = asked in
-        (count-is, omega (arith, count-is, chunks-some s.chunk (length bytes) d.chunk-some d.size-some))
+        (count-is, omega (arith, count-is, chunks_some s.chunk (length bytes) d.chunk-some d.size-some))
 
     -- The chunks, of which a number's packet has its own: joined they are the bytes, none is empty, none longer than C.
-    pub submit-chunks : joined (chunksFrom s.chunk 0 count bytes) ≡ bytes
-    submit-chunks = rw count-is (chunks-are-bytes s.chunk asked.chunk-some bytes)
+    pub submit_chunks : joined (chunks_from s.chunk 0 count bytes) ≡ bytes
+    submit_chunks = rw count-is (chunks_are_bytes s.chunk asked.chunk-some bytes)
 
-    pub submit-chunk-some : (k : ℕ) → k < count → 1 ≤ length (chunkAt s.chunk k bytes)
+    pub submit-chunk-some : (k : ℕ) → k < count → 1 ≤ length (chunk_at s.chunk k bytes)
     submit-chunk-some k h = chunk-some s.chunk asked.chunk-some bytes k (omega (arith, count-is))
 
-    pub submit-chunk-most : (k : ℕ) → length (chunkAt s.chunk k bytes) ≤ s.chunk
-    submit-chunk-most k = chunk-most s.chunk k bytes
+    pub submit_chunk_most : (k : ℕ) → length (chunk_at s.chunk k bytes) ≤ s.chunk
+    submit_chunk_most k = chunk_most s.chunk k bytes
 
     module _ (sound : Sound s store) where
       -- Every number's standing, every byte of the store, and every other field of the state.
-      pub submit-stores : Stores (dataPacket r send recv) count bytes s store
-          (record { state = (submitOf s r send recv bytes store).state; store = (submitOf s r send recv bytes store).lent })
-      submit-stores =
+      pub submit_stores : Stores (data_packet r send recv) count bytes s store
+          (record { state = (submit_of s r send recv bytes store).state; store = (submit_of s r send recv bytes store).lent })
+      submit_stores =
           rw (stored_is.0, stored_is.1)
-          (stores (dataPacket r send recv) count bytes s store sound (rw count-is asked.roomy) (packet-fits r send recv s.chunk))
+          (stores (data_packet r send recv) count bytes s store sound (rw count-is asked.roomy) (packet-fits r send recv s.chunk))
 
-      pub submit-keeps : Sound (submitOf s r send recv bytes store).state (submitOf s r send recv bytes store).lent
-      submit-keeps = submit-stores.sound
+      pub submit-keeps : Sound (submit_of s r send recv bytes store).state (submit_of s r send recv bytes store).lent
+      submit-keeps = submit_stores.sound
 
       -- Next goes on by so many.
-      pub submit-next : (submitOf s r send recv bytes store).state.next.0 ≡ s.next.0 + count
-      submit-next = submit-stores.next-is
+      pub submit-next : (submit_of s r send recv bytes store).state.next.0 ≡ s.next.0 + count
+      submit-next = submit_stores.next-is
 
-      pub submit-means : (n : ℕ) → standing (submitOf s r send recv bytes store).state (submitOf s r send recv bytes store).lent n
-          ≡ submittedAs (dataPacket r send recv) s.chunk s.next.0 count bytes n (standing s store n)
-      submit-means = submit-stores.means
+      pub submit-means : (n : ℕ) → standing (submit_of s r send recv bytes store).state (submit_of s r send recv bytes store).lent n
+          ≡ submitted_as (data_packet r send recv) s.chunk s.next.0 count bytes n (standing s store n)
+      submit-means = submit_stores.means
 
       -- A byte of the store that is none of the new packets' is as it was.
-      pub submit-only-its-bytes : (k : ℕ) → ((n : ℕ) → s.next.0 ≤ n → n < s.next.0 + count → isOutside (submitOf s r send recv bytes store).state n k ≡ true)
-          → get_or (submitOf s r send recv bytes store).lent k 0 ≡ get_or store k 0
-      submit-only-its-bytes = submit-stores.byte-is
+      pub submit_only_its_bytes : (k : ℕ) → ((n : ℕ) → s.next.0 ≤ n → n < s.next.0 + count → is_outside (submit_of s r send recv bytes store).state n k ≡ true)
+          → get_or (submit_of s r send recv bytes store).lent k 0 ≡ get_or store k 0
+      submit_only_its_bytes = submit_stores.byte_is
 
   -- Submit keeps a state and a store that belong together, whatever it is given.
-  pub submit-sound : Sound s store → Sound (submitOf s r send recv bytes store).state (submitOf s r send recv bytes store).lent
+  pub submit-sound : Sound s store → Sound (submit_of s r send recv bytes store).state (submit_of s r send recv bytes store).lent
   submit-sound sound =
-      by_said (submitOf s r send recv bytes store).says
+      by_said (submit_of s r send recv bytes store).says
       (λ n e. rw ((submit-refused n e).0, (submit-refused n e).1) sound)
-      (λ given e. submit-keeps (chunks_of s.chunk (length bytes)) (e ∙ ap values (submit-done given e).gives) sound)
+      (λ given e. submit-keeps (chunks_of s.chunk (length bytes)) (e ∙ ap values (submit_done given e).gives) sound)
 
   -- Its answer in such a state: the receiver alone may be at fault, and past that 21 is given exactly if a number waits.
-  pub submit-answer : Sound s store → (submitOf s r send recv bytes store).says
-      ≡ (refusal 11 when not (rulesOf r) else
-      refusal 10 when not (slotFits r.head.slot) else
+  pub submit-answer : Sound s store → (submit_of s r send recv bytes store).says
+      ≡ (refusal 11 when not (rules_of r) else
+      refusal 10 when not (slot_fits r.head.slot) else
       refusal 21 when not (is_empty (waiting s)) else
       refusal 19 when eqb (length bytes) 0 || ltb 65535 (length bytes) else
       refusal 20 when leb 4294967295 (s.next.0 + (chunks_of s.chunk (length bytes) - 1)) else
-      refusal 18 when ltb (freeOf s) (chunks_of s.chunk (length bytes)) else
+      refusal 18 when ltb (free_of s) (chunks_of s.chunk (length bytes)) else
       values (chunks_of s.chunk (length bytes) ∷ []))
-  unfolding submitSaid
+  unfolding submit_said
   submit-answer sound =
-      let some : ltb 0 (countOf 1 s.marks) ≡ not (is_empty (waiting s)) = rw (waiting-count s store sound) (some_or_none (countOf 1 s.marks)) in
+      let some : ltb 0 (count_of 1 s.marks) ≡ not (is_empty (waiting s)) = rw (waiting-count s store sound) (some_or_none (count_of 1 s.marks)) in
       says_is ∙ rw (sound.keeps, sound.fits, some)
     where
       some_or_none : (k : ℕ) → ltb 0 k ≡ not (leb k 0)
@@ -144,11 +144,11 @@ module _ (s : Sender) (r : Receiver) (send recv : StreamId) (bytes store : List 
           (dec_le k 0)
 
   -- none blames the rules or the sizes, where the receiver's are not at fault
-  pub submit-fair : Sound s store → rulesOf r ≡ true → slotFits r.head.slot ≡ true → isFair (submitOf s r send recv bytes store).says ≡ true
-  submit-fair sound keeps fits =
+  pub submit_fair : Sound s store → rules_of r ≡ true → slot_fits r.head.slot ≡ true → is_fair (submit_of s r send recv bytes store).says ≡ true
+  submit_fair sound keeps fits =
       let n = chunks_of s.chunk (length bytes) in
       rw (submit-answer sound, keeps, fits)
-      (fair-rung 21 (not (is_empty (waiting s))) _ refl
-      (fair-rung 19 (eqb (length bytes) 0 || ltb 65535 (length bytes)) _ refl
-      (fair-rung 20 (leb 4294967295 (s.next.0 + (n - 1))) _ refl
-      (fair-rung 18 (ltb (freeOf s) n) _ refl refl))))
+      (fair_rung 21 (not (is_empty (waiting s))) _ refl
+      (fair_rung 19 (eqb (length bytes) 0 || ltb 65535 (length bytes)) _ refl
+      (fair_rung 20 (leb 4294967295 (s.next.0 + (n - 1))) _ refl
+      (fair_rung 18 (ltb (free_of s) n) _ refl refl))))

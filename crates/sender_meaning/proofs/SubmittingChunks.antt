@@ -9,10 +9,10 @@ use lib.ListN.{length, take, drop, length-take, length-drop}
 use lib.Seq.{take_all, take-add, drop-drop}
 use Rattle.terms.specs.Lists.{joined}
 use Rattle.sender_submit_answer.specs.Answer.{chunks_of}
-use Rattle.sender_meaning.specs.Steps.{chunkAt, chunksFrom}
+use Rattle.sender_meaning.specs.Steps.{chunk_at, chunks_from}
 
 -- so many chunks in a row are so many bytes
-pub row-joined : (chunk k count : ℕ) (bytes : List ℕ) → joined (chunksFrom chunk k count bytes) ≡ take (count * chunk) (drop (k * chunk) bytes)
+pub row-joined : (chunk k count : ℕ) (bytes : List ℕ) → joined (chunks_from chunk k count bytes) ≡ take (count * chunk) (drop (k * chunk) bytes)
 row-joined chunk k zero bytes = rw zero-mul
 row-joined chunk k (suc count) bytes =
     let e : suc count * chunk ≡ chunk + count * chunk = omega (arith, suc-mul count chunk) in
@@ -20,15 +20,15 @@ row-joined chunk k (suc count) bytes =
     rw (row-joined chunk (suc k) count bytes, e, take-add chunk (count * chunk) (drop (k * chunk) bytes), drop-drop chunk (k * chunk) bytes, f)
 
 -- one chunk in front, and the rest of the row
-pub chunk-later : (chunk k : ℕ) (bytes : List ℕ) → chunkAt chunk k (drop chunk bytes) ≡ chunkAt chunk (suc k) bytes
+pub chunk-later : (chunk k : ℕ) (bytes : List ℕ) → chunk_at chunk k (drop chunk bytes) ≡ chunk_at chunk (suc k) bytes
 chunk-later chunk k bytes =
     let e : chunk + k * chunk ≡ suc k * chunk = omega (arith, suc-mul k chunk) in
     rw (drop-drop (k * chunk) chunk bytes, e)
 
 module _ (chunk : ℕ) (some : 1 ≤ chunk) where
   -- the bytes end within the last chunk
-  pub row-enough : (size : ℕ) → size ≤ chunks_of chunk size * chunk
-  row-enough size = omega (arith, lt-div-mul-add {a = size + (chunk - 1)} some)
+  pub row_enough : (size : ℕ) → size ≤ chunks_of chunk size * chunk
+  row_enough size = omega (arith, lt-div-mul-add {a = size + (chunk - 1)} some)
 
   pub row-begun : (size k : ℕ) → k < chunks_of chunk size → k * chunk < size
   row-begun size k h =
@@ -36,15 +36,15 @@ module _ (chunk : ℕ) (some : 1 ≤ chunk) where
       omega (arith, m, suc-mul k chunk)
 
   -- The chunks joined are the bytes, ..
-  pub chunks-are-bytes : (bytes : List ℕ) → joined (chunksFrom chunk 0 (chunks_of chunk (length bytes)) bytes) ≡ bytes
-  chunks-are-bytes bytes =
+  pub chunks_are_bytes : (bytes : List ℕ) → joined (chunks_from chunk 0 (chunks_of chunk (length bytes)) bytes) ≡ bytes
+  chunks_are_bytes bytes =
       row-joined chunk 0 (chunks_of chunk (length bytes)) bytes
-      ∙ rw zero-mul (take_all (chunks_of chunk (length bytes) * chunk) bytes (row-enough (length bytes)))
+      ∙ rw zero-mul (take_all (chunks_of chunk (length bytes) * chunk) bytes (row_enough (length bytes)))
 
   -- .. none is empty, ..
-  pub chunk-some : (bytes : List ℕ) (k : ℕ) → k < chunks_of chunk (length bytes) → 1 ≤ length (chunkAt chunk k bytes)
+  pub chunk-some : (bytes : List ℕ) (k : ℕ) → k < chunks_of chunk (length bytes) → 1 ≤ length (chunk_at chunk k bytes)
   chunk-some bytes k h = simp (length-take, length-drop) (omega (arith, row-begun (length bytes) k h))
 
 -- .. and none is longer than the chunk size.
-pub chunk-most : (chunk k : ℕ) (bytes : List ℕ) → length (chunkAt chunk k bytes) ≤ chunk
-chunk-most chunk k bytes = simp length-take (omega arith)
+pub chunk_most : (chunk k : ℕ) (bytes : List ℕ) → length (chunk_at chunk k bytes) ≤ chunk
+chunk_most chunk k bytes = simp length-take (omega arith)

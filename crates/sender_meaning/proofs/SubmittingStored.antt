@@ -11,17 +11,17 @@ use borrow.Author.Tests.{le-leb, lt-leb, lt-ltb, le-ltb}
 use lib.Dec.{leb, ltb}
 use lib.ListN.{length, get_or, take, drop, length-take}
 use Rattle.terms.proofs.Laws.{case}
-use Rattle.sender_state.specs.Table.{placeOf}
+use Rattle.sender_state.specs.Table.{place_of}
 use Rattle.sender_state.specs.declared.Sender.{Sender}
 use Rattle.sender_state.specs.Numbers.{size_of, offset_of}
-use Rattle.sender_submit.specs.Chunks.{lowestFree, Stored, storedBy}
+use Rattle.sender_submit.specs.Chunks.{lowest_free, Stored, stored_by}
 use Rattle.sender_submit.specs.Steps.{Roomy}
 use Rattle.sender_meaning.specs.Meaning.{Standing, waits, standing, Sound}
-use Rattle.sender_meaning.specs.Steps.{submittedAs, isOutside}
+use Rattle.sender_meaning.specs.Steps.{submitted_as, is_outside}
 use Rattle.sender_meaning.specs.Changes.{Stores}
 use Rattle.sender_meaning.proofs.Stands.{facts}
 use Rattle.sender_meaning.proofs.SubmittingRules.{Room, grown, laid}
-use Rattle.sender_meaning.proofs.SubmittingStep.{laid-long, joined-sound, free-less, place-next, size-next, place-stays, size-stays, next-waits, others-stand, byte-stays}
+use Rattle.sender_meaning.proofs.SubmittingStep.{laid_long, joined-sound, free_less, place_next, size-next, place_stays, size_stays, next-waits, others_stand, byte_stays}
 use Rattle.sender_meaning.proofs.SubmittingChunks.{chunk-later}
 
 -- each packet that is made of a chunk fits a place
@@ -35,17 +35,17 @@ outside at size k e a b = true≢false (sym e ∙ rw (le-ltb k at a, lt-leb (at 
 
 module _ (packet : ℕ → List ℕ → List ℕ) (chunk next left : ℕ) (bytes : List ℕ) (n : ℕ) where
   -- none
-  means-none : (before : Standing) → before ≡ submittedAs packet chunk next 0 bytes n before
-  means-none before =
+  means_none : (before : Standing) → before ≡ submitted_as packet chunk next 0 bytes n before
+  means_none before =
       case
       (λ (h : n < next). rw (lt-leb next n h))
       (λ (h : n < next → ⊥). rw (le-leb next n (omega arith), le-ltb n (next + 0) (omega arith)))
       (dec_lt n next)
 
   -- the first, and then the others
-  means-more : (before made : Standing) → (next ≡ n → made ≡ waits (packet next (take chunk bytes))) → ((next ≡ n → ⊥) → made ≡ before)
-      → submittedAs packet chunk (next + 1) left (drop chunk bytes) n made ≡ submittedAs packet chunk next (suc left) bytes n before
-  means-more before made first others =
+  means_more : (before made : Standing) → (next ≡ n → made ≡ waits (packet next (take chunk bytes))) → ((next ≡ n → ⊥) → made ≡ before)
+      → submitted_as packet chunk (next + 1) left (drop chunk bytes) n made ≡ submitted_as packet chunk next (suc left) bytes n before
+  means_more before made first others =
       case
       (λ (e : next ≡ n).
       let z : n - next ≡ 0 = omega arith in
@@ -65,8 +65,8 @@ module _ (packet : ℕ → List ℕ → List ℕ) (chunk next left : ℕ) (bytes
       (ℕ_discrete next n)
 
 module _ (packet : ℕ → List ℕ → List ℕ) where
-  stores-none : (bytes : List ℕ) (s : Sender) (store : List ℕ) → Sound s store → Stores packet 0 bytes s store (record { state = s; store = store })
-  stores-none bytes s store sound = record {
+  stores_none : (bytes : List ℕ) (s : Sender) (store : List ℕ) → Sound s store → Stores packet 0 bytes s store (record { state = s; store = store })
+  stores_none bytes s store sound = record {
     sound = sound;
     next-is = omega arith;
     chunk-is = refl;
@@ -75,17 +75,17 @@ module _ (packet : ℕ → List ℕ → List ℕ) where
     timing-is = refl;
     timer-is = refl;
     clock-is = refl;
-    means = λ n. means-none packet s.chunk s.next.0 0 bytes n (standing s store n);
+    means = λ n. means_none packet s.chunk s.next.0 0 bytes n (standing s store n);
     place_is = λ n some below. refl;
     size_is = λ n some below. refl;
     long = refl;
-    byte-is = λ k out. refl;
+    byte_is = λ k out. refl;
   }
 
   module _ (left : ℕ) (bytes : List ℕ) (s : Sender) (store : List ℕ) (sound : Sound s store) (made : List ℕ) (room : Room s made) (is : made ≡ packet s.next.0 (take s.chunk bytes))
       (after : Stored) (rest : Stores packet left (drop s.chunk bytes) (grown s made) (laid s made store) after) where
-    stores-more : Stores packet (suc left) bytes s store after
-    stores-more =
+    stores_more : Stores packet (suc left) bytes s store after
+    stores_more =
         let some = (facts s store sound).next-some in
         record {
           sound = rest.sound;
@@ -98,27 +98,27 @@ module _ (packet : ℕ → List ℕ → List ℕ) where
           clock-is = rest.clock-is;
           means = λ n.
               rest.means n
-              ∙ means-more packet s.chunk s.next.0 left bytes n (standing s store n) (standing (grown s made) (laid s made store) n)
+              ∙ means_more packet s.chunk s.next.0 left bytes n (standing s store n) (standing (grown s made) (laid s made store) n)
               (λ e. rw (← e) (next-waits s store sound made room ∙ ap waits is))
-              (λ o. others-stand s store sound made room n o);
-          place_is = λ n z below. rest.place_is n z (omega arith) ∙ place-stays s store sound made room n z (λ e. omega arith);
-          size_is = λ n z below. rest.size_is n z (omega arith) ∙ size-stays s store sound made room n z (λ e. omega arith);
-          long = rest.long ∙ laid-long s store sound made room;
-          byte-is = λ k out.
+              (λ o. others_stand s store sound made room n o);
+          place_is = λ n z below. rest.place_is n z (omega arith) ∙ place_stays s store sound made room n z (λ e. omega arith);
+          size_is = λ n z below. rest.size_is n z (omega arith) ∙ size_stays s store sound made room n z (λ e. omega arith);
+          long = rest.long ∙ laid_long s store sound made room;
+          byte_is = λ k out.
               let z : s.next.0 ≡ 0 → ⊥ = λ e. omega arith in
-              let place : placeOf after.state.numbers s.next.0 ≡ lowestFree s = rest.place_is s.next.0 z (omega arith) ∙ place-next s store sound made room in
+              let place : place_of after.state.numbers s.next.0 ≡ lowest_free s = rest.place_is s.next.0 z (omega arith) ∙ place_next s store sound made room in
               let size : size_of after.state s.next.0 ≡ length made = rest.size_is s.next.0 z (omega arith) ∙ size-next s store sound made room in
-              let own : isOutside after.state s.next.0 k ≡ true = out s.next.0 (omega arith) (omega arith) in
-              rest.byte-is k (λ n a b. out n (omega arith) (omega arith))
-              ∙ byte-stays s store sound made room k
-              (outside (offset_of s.chunk (lowestFree s)) (length made) k (rw (rest.chunk-is, size, place) at own));
+              let own : is_outside after.state s.next.0 k ≡ true = out s.next.0 (omega arith) (omega arith) in
+              rest.byte_is k (λ n a b. out n (omega arith) (omega arith))
+              ∙ byte_stays s store sound made room k
+              (outside (offset_of s.chunk (lowest_free s)) (length made) k (rw (rest.chunk-is, size, place) at own));
         }
 
   -- So many packets, each in the lowest place that is free then.
   pub stores : (count : ℕ) (bytes : List ℕ) (s : Sender) (store : List ℕ) → Sound s store → Roomy s count (length store) → FitsPlaces packet s.chunk
-      → Stores packet count bytes s store (storedBy packet count bytes s store)
-  unfolding storedBy
-  stores zero bytes s store sound rooms fit = stores-none bytes s store sound
+      → Stores packet count bytes s store (stored_by packet count bytes s store)
+  unfolding stored_by
+  stores zero bytes s store sound rooms fit = stores_none bytes s store sound
   stores (suc left) bytes s store sound rooms fit =
       let made = packet s.next.0 (take s.chunk bytes) in
       let room : Room s made = record {
@@ -128,10 +128,10 @@ module _ (packet : ℕ → List ℕ → List ℕ) where
         usable = omega (arith, rooms.numbered);
       } in
       let rooms' : Roomy (grown s made) left (length (laid s made store)) = record {
-        chunk-most = rooms.chunk-most;
+        chunk_most = rooms.chunk_most;
         count_most = rooms.count_most;
-        store = laid-long s store sound made room ∙ rooms.store;
-        free = omega (arith, rooms.free, free-less s store sound made room);
+        store = laid_long s store sound made room ∙ rooms.store;
+        free = omega (arith, rooms.free, free_less s store sound made room);
         numbered = omega (arith, rooms.numbered);
       } in
-      stores-more left bytes s store sound made room refl _ (stores left (drop s.chunk bytes) (grown s made) (laid s made store) (joined-sound s store sound made room) rooms' fit)
+      stores_more left bytes s store sound made room refl _ (stores left (drop s.chunk bytes) (grown s made) (laid s made store) (joined-sound s store sound made room) rooms' fit)

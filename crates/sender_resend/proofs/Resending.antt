@@ -16,31 +16,31 @@ use Rattle.terms.proofs.Laws.{case, or_left, past as passed-rung}
 use Rattle.terms.specs.Answers.{refusal, values, said}
 use Rattle.terms.specs.declared.Answer.{Answer}
 use Rattle.terms.specs.declared.Answer.TheVariants as A
-use Rattle.timer.specs.Timer.{rtoOf}
-use Rattle.sender_state.specs.Table.{◌!◌, placeOf}
-use Rattle.sender_state.specs.Rules.{rules, countsFit, clockWrong}
+use Rattle.timer.specs.Timer.{rto_of}
+use Rattle.sender_state.specs.Table.{◌!◌, place_of}
+use Rattle.sender_state.specs.Rules.{rules, counts_fit, clock_wrong}
 use Rattle.sender_state.specs.Answers.{Outcome}
 use Rattle.sender_state.specs.declared.Sender.{Sender}
 use Rattle.sender_state.specs.declared.Timer.TheVariants as T
-use Rattle.sender_state.specs.Numbers.{run, markedWith, inFlight}
-use Rattle.sender_resend.specs.Steps.{flyingBelow}
-use Rattle.sender_state.specs.Steps.{leastOf, Tidy}
-use Rattle.sender_resend.specs.Resend.{resendRefusal, expiredOf, is_empty, isIn, timedAt, resentBy, resendLeaves, resendCount, resendOf}
-use Rattle.sender_state.proofs.Runs.{beyond, in-run, not_in}
+use Rattle.sender_state.specs.Numbers.{run, marked_with, in_flight}
+use Rattle.sender_resend.specs.Steps.{flying_below}
+use Rattle.sender_state.specs.Steps.{least_of, Tidy}
+use Rattle.sender_resend.specs.Resend.{resend_refusal, expired_of, is_empty, is_in, timed_at, resent_by, resend_leaves, resend_count, resend_of}
+use Rattle.sender_state.proofs.Runs.{beyond, in_run, not_in}
 use Rattle.sender_state.proofs.Search.{place_is, stored, Ahead, ahead}
-use Rattle.sender_state.proofs.Facts.{clock-fair}
+use Rattle.sender_state.proofs.Facts.{clock_fair}
 
 -- of the numbers in flight below end, those of the places in flight with numbers below end
 module _ (numbers marks : List ℕ) (next end : ℕ) (tidy : Tidy numbers marks 2 next) where
   abbrev flies : ℕ → Bool
-  flies n = markedWith 2 marks (placeOf numbers n)
+  flies n = marked_with 2 marks (place_of numbers n)
 
   inside : (i : ℕ) → marks ! i ≡ 2 → i < 192
   inside i e = case (λ (q : i < 192). q) (λ (q : i < 192 → ⊥). absurd (omega (arith, beyond marks i 0 (omega (arith, tidy.table)), e))) (dec_lt i 192)
 
   grounded : (i : ℕ) → (marks ! i ≡ 2 → ⊥) → flies (numbers ! i) ≡ true → ⊥
   grounded i o t =
-      let k = placeOf numbers (numbers ! i) in
+      let k = place_of numbers (numbers ! i) in
       let e = eqb-true (marks ! k) 2 t in
       let b = inside k e in
       let same = place_is numbers (numbers ! i) (omega (arith, tidy.row)) in
@@ -50,13 +50,13 @@ module _ (numbers marks : List ℕ) (next end : ℕ) (tidy : Tidy numbers marks 
       (λ (q : i < 192 → ⊥). omega (arith, beyond numbers i 0 (omega (arith, tidy.row)), same))
       (dec_lt i 192)
 
-  pub same-places : (i : ℕ) → isIn (run flies 0 end) (numbers ! i) ≡ flyingBelow numbers marks end i
-  same-places i =
+  pub same_places : (i : ℕ) → is_in (run flies 0 end) (numbers ! i) ≡ flying_below numbers marks end i
+  same_places i =
       case
       (λ (e : marks ! i ≡ 2).
       let t : flies (numbers ! i) ≡ true = rw (stored numbers marks 2 next tidy i (inside i e) e) (eq-eqb _ _ e) in
       case
-      (λ (q : numbers ! i < end). rw (eq-eqb (marks ! i) 2 e, lt-ltb (numbers ! i) end q, in-run flies (numbers ! i) end 0 (omega arith) (omega arith) t))
+      (λ (q : numbers ! i < end). rw (eq-eqb (marks ! i) 2 e, lt-ltb (numbers ! i) end q, in_run flies (numbers ! i) end 0 (omega arith) (omega arith) t))
       (λ (q : numbers ! i < end → ⊥).
       let b : end ≤ numbers ! i = omega arith in
       rw (eq-eqb (marks ! i) 2 e, le-ltb (numbers ! i) end b, not_in flies (numbers ! i) end 0 (λ _ h. omega arith)))
@@ -64,26 +64,26 @@ module _ (numbers marks : List ℕ) (next end : ℕ) (tidy : Tidy numbers marks 
       (λ (o : marks ! i ≡ 2 → ⊥). rw (ne_eqb (marks ! i) 2 o, not_in flies (numbers ! i) end 0 (λ t _. grounded i o t)))
       (ℕ_discrete (marks ! i) 2)
 
-  pub again-same : (l : List ℕ) → run flies 0 end ≡ l → flyingBelow numbers marks end ≡ (λ i. isIn l (numbers ! i))
-  again-same l e = λ k i. (sym (same-places i) ∙ ap (λ (x : List ℕ). isIn x (numbers ! i)) e) k
+  pub again_same : (l : List ℕ) → run flies 0 end ≡ l → flying_below numbers marks end ≡ (λ i. is_in l (numbers ! i))
+  again_same l e = λ k i. (sym (same_places i) ∙ ap (λ (x : List ℕ). is_in x (numbers ! i)) e) k
 
 -- what keeps resend from being done, and what holds where nothing does
-module _ (s : Sender) (clock : ℕ) (path : Bool) (answer : Answer) (judged : said answer ≡ resendRefusal s clock) where
-  pub resend-kept : (why : Refusal) → answer ≡ A.Refused why → ◌≡◌ {A = Outcome} (record { says = refusal (number_of why); state = s; lent = [] }) (resendOf s clock path)
-  unfolding resendOf
-  resend-kept why is = let e : resendRefusal s clock ≡ refusal (number_of why) = sym judged ∙ ap said is in simp e
+module _ (s : Sender) (clock : ℕ) (path : Bool) (answer : Answer) (judged : said answer ≡ resend_refusal s clock) where
+  pub resend-kept : (why : Refusal) → answer ≡ A.Refused why → ◌≡◌ {A = Outcome} (record { says = refusal (number_of why); state = s; lent = [] }) (resend_of s clock path)
+  unfolding resend_of
+  resend-kept why is = let e : resend_refusal s clock ≡ refusal (number_of why) = sym judged ∙ ap said is in simp e
 
-  pub resend-pass : answer ≡ A.Done → ◌≡◌ {A = Outcome} (record { says = values (resendCount s clock path ∷ []); state = resendLeaves s clock path; lent = [] }) (resendOf s clock path)
-  unfolding resendOf
-  resend-pass is = let e : resendRefusal s clock ≡ values [] = sym judged ∙ ap said is in simp e
+  pub resend_pass : answer ≡ A.Done → ◌≡◌ {A = Outcome} (record { says = values (resend_count s clock path ∷ []); state = resend_leaves s clock path; lent = [] }) (resend_of s clock path)
+  unfolding resend_of
+  resend_pass is = let e : resend_refusal s clock ≡ values [] = sym judged ∙ ap said is in simp e
 
-  pub resend-fair : answer ≡ A.Done → (rules s ≡ true) × (s.clock ≤ clock) × (clock ≤ 1000000000000000)
-  unfolding resendRefusal
-  resend-fair is =
+  pub resend_fair : answer ≡ A.Done → (rules s ≡ true) × (s.clock ≤ clock) × (clock ≤ 1000000000000000)
+  unfolding resend_refusal
+  resend_fair is =
       let p11 = passed-rung 11 (not (rules s)) _ [] (sym judged ∙ ap said is) in
-      let p10 = passed-rung 10 (not (countsFit s.chunk s.count)) _ [] p11.1 in
-      let p24 = passed-rung 24 (clockWrong s.clock clock) _ [] p10.1 in
-      let fair = clock-fair s.clock clock p24.0 in
+      let p10 = passed-rung 10 (not (counts_fit s.chunk s.count)) _ [] p11.1 in
+      let p24 = passed-rung 24 (clock_wrong s.clock clock) _ [] p10.1 in
+      let fair = clock_fair s.clock clock p24.0 in
       (not-false (rules s) p11.0, fair.0, fair.1)
 
 nothing : (l : List ℕ) → length l ≤ 0 → l ≡ []
@@ -91,42 +91,42 @@ nothing [] h = refl
 nothing (x ∷ l) h = absurd (not-suc-le-zero h)
 
 -- what the search for the lowest number in flight tells
-module _ (s : Sender) (tidy : Tidy s.numbers s.marks 2 s.next.0) (low : ℕ) (e : low ≡ leastOf s.numbers s.marks 2 0 192) where
-  lowest : Ahead (λ n. markedWith 2 s.marks (placeOf s.numbers n)) s.next.0 low (inFlight s)
+module _ (s : Sender) (tidy : Tidy s.numbers s.marks 2 s.next.0) (low : ℕ) (e : low ≡ least_of s.numbers s.marks 2 0 192) where
+  lowest : Ahead (λ n. marked_with 2 s.marks (place_of s.numbers n)) s.next.0 low (in_flight s)
   lowest =
       let z : s.next.0 - 0 ≡ s.next.0 = omega arith in
       rw e (rw z at (ahead s.numbers s.marks 2 s.next.0 tidy 0 (omega arith)))
 
-  pub none-flies : low ≡ 4294967295 → length (inFlight s) ≤ 0
-  none-flies q = rw (lowest.none q) (omega arith)
+  pub none_flies : low ≡ 4294967295 → length (in_flight s) ≤ 0
+  none_flies q = rw (lowest.none q) (omega arith)
 
-  pub some-flies : (low ≡ 4294967295 → ⊥) → 0 < length (inFlight s)
+  pub some-flies : (low ≡ 4294967295 → ⊥) → 0 < length (in_flight s)
   some-flies o = rw (lowest.more (omega (arith, lowest.most, o))) (omega arith)
 
 -- the three ways
 module _ (s : Sender) (clock : ℕ) where
   abbrev pub Left : Bool → Outcome
-  Left path = record { says = values (resendCount s clock path ∷ []); state = resendLeaves s clock path; lent = [] }
+  Left path = record { says = values (resend_count s clock path ∷ []); state = resend_leaves s clock path; lent = [] }
 
   -- nothing in flight
-  pub left-idle : (path : Bool) → length (inFlight s) ≤ 0 → (state : Sender) → state ≡ timedAt s T.Unarmed clock
+  pub left-idle : (path : Bool) → length (in_flight s) ≤ 0 → (state : Sender) → state ≡ timed_at s T.Unarmed clock
       → ◌≡◌ {A = Outcome} (record { says = values (0 ∷ []); state = state; lent = [] }) (Left path)
-  left-idle true h state e = let n = nothing (inFlight s) h in rw (e, n) (rw (take-nil {A = ℕ} s.window))
-  left-idle false h state e = let n = nothing (inFlight s) h in rw (e, n)
+  left-idle true h state e = let n = nothing (in_flight s) h in rw (e, n) (rw (take-nil {A = ℕ} s.window))
+  left-idle false h state e = let n = nothing (in_flight s) h in rw (e, n)
 
-  module _ (some : 0 < length (inFlight s)) where
+  module _ (some : 0 < length (in_flight s)) where
     -- none expired, or no new path
-    pub left-later : (count : ℕ) → count ≡ length (expiredOf s clock) → (path : Bool) → (eqb count 0 || not path) ≡ true → (state : Sender)
-        → state ≡ timedAt s (T.At (clock + rtoOf s.timing)) clock → ◌≡◌ {A = Outcome} (record { says = values (0 ∷ []); state = state; lent = [] }) (Left path)
+    pub left-later : (count : ℕ) → count ≡ length (expired_of s clock) → (path : Bool) → (eqb count 0 || not path) ≡ true → (state : Sender)
+        → state ≡ timed_at s (T.At (clock + rto_of s.timing)) clock → ◌≡◌ {A = Outcome} (record { says = values (0 ∷ []); state = state; lent = [] }) (Left path)
     left-later count n true t state e =
-        let z : length (expiredOf s clock) ≡ 0 = sym n ∙ eqb-true count 0 (or_left (eqb count 0) false refl t) in
-        rw (e, lt-leb (length (inFlight s)) 0 some, z)
-    left-later count n false t state e = rw (e, lt-leb (length (inFlight s)) 0 some, or-true (is_empty (expiredOf s clock)))
+        let z : length (expired_of s clock) ≡ 0 = sym n ∙ eqb-true count 0 (or_left (eqb count 0) false refl t) in
+        rw (e, lt-leb (length (in_flight s)) 0 some, z)
+    left-later count n false t state e = rw (e, lt-leb (length (in_flight s)) 0 some, or-true (is_empty (expired_of s clock)))
 
     -- the expired go out again
-    pub left-again : 0 < length (expiredOf s clock) → (count : ℕ) → count ≡ length (expiredOf s clock) → (again : ℕ → Bool) → again ≡ (λ i. isIn (expiredOf s clock) (s.numbers ! i))
-        → (state : Sender) → state ≡ resentBy s clock again
+    pub left_again : 0 < length (expired_of s clock) → (count : ℕ) → count ≡ length (expired_of s clock) → (again : ℕ → Bool) → again ≡ (λ i. is_in (expired_of s clock) (s.numbers ! i))
+        → (state : Sender) → state ≡ resent_by s clock again
         → ◌≡◌ {A = Outcome} (record { says = values (count ∷ []); state = state; lent = [] }) (Left true)
-    left-again h count n again a state e =
-        rw (e, n, lt-leb (length (inFlight s)) 0 some, lt-leb (length (expiredOf s clock)) 0 h)
-        (ap (λ (q : ℕ → Bool). record { says = values (length (expiredOf s clock) ∷ []); state = resentBy s clock q; lent = [] }) a)
+    left_again h count n again a state e =
+        rw (e, n, lt-leb (length (in_flight s)) 0 some, lt-leb (length (expired_of s clock)) 0 h)
+        (ap (λ (q : ℕ → Bool). record { says = values (length (expired_of s clock) ∷ []); state = resent_by s clock q; lent = [] }) a)

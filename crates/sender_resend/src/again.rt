@@ -3,10 +3,10 @@ ghost use Rattle.std.specs.Prelude.{◌≡◌, true, ◌&&◌, [], ◌∷◌, �
 ghost use Rattle.terms.specs.Ladder.{◌when◌else◌};
 ghost use Rattle.terms.specs.Answers.{values, said};
 ghost use Rattle.sender_state.specs.Rules.{rules};
-ghost use Rattle.sender_state.specs.Table.{◌!◌, isFlying, replaced};
+ghost use Rattle.sender_state.specs.Table.{◌!◌, is_flying, replaced};
 ghost use Rattle.sender_state.specs.Steps.{Tidy};
-ghost use Rattle.sender_resend.specs.Steps.{Expires, flyingBelow};
-ghost use Rattle.sender_resend.specs.Resend.{isDue, resendRefusal, timedAt, resentBy, resendCount, resendLeaves, resentOut};
+ghost use Rattle.sender_resend.specs.Steps.{Expires, flying_below};
+ghost use Rattle.sender_resend.specs.Resend.{is_due, resend_refusal, timed_at, resent_by, resend_count, resend_leaves, resent_out};
 
 use super::{Expired, Resent};
 use sender_state::{Sender, Tally, Timer};
@@ -55,7 +55,7 @@ fn find_expired<'a>(
 
 // Whether the timer is armed and the clock at or past it.
 fn due(timer: Timer, clock: u64) -> bool
-    ensures { result ≡ isDue timer clock }
+    ensures { result ≡ is_due timer clock }
 {
     match timer {
         Timer::Unarmed => false,
@@ -65,7 +65,7 @@ fn due(timer: Timer, clock: u64) -> bool
 
 // What keeps resend from being done: the first refusal that applies, in document 01's order.
 pub(super) fn judge_resend(s: Sender, clock: u64) -> Answer
-    ensures { said result ≡ resendRefusal s clock }
+    ensures { said result ≡ resend_refusal s clock }
 {
     let chunk = s.chunk;
     let count = s.count;
@@ -88,7 +88,7 @@ pub(super) fn judge_resend(s: Sender, clock: u64) -> Answer
 
 // The state with another timer and clock.
 fn still(s: Sender, timer: Timer, clock: u64) -> Sender
-    ensures { result ≡ timedAt s timer clock }
+    ensures { result ≡ timed_at s timer clock }
 {
     let next = s.next;
     let timing = s.timing;
@@ -115,7 +115,7 @@ fn still(s: Sender, timer: Timer, clock: u64) -> Sender
 
 // The send time of one place after a resend: the clock where its packet is in flight with a number below end.
 fn stamp(sent: u64, number: u32, mark: u32, end: u32, clock: u64) -> u64
-    ensures { result ≡ (clock when (isFlying mark && ltb number end) else sent) }
+    ensures { result ≡ (clock when (is_flying mark && ltb number end) else sent) }
 {
     if mark != 2 {
         return sent;
@@ -129,7 +129,7 @@ fn stamp(sent: u64, number: u32, mark: u32, end: u32, clock: u64) -> u64
 // Stamps the places in flight with numbers below end.
 fn stamp_all<'a>(sent: &mut [u64; 192], numbers: &'a [u32], marks: &'a [u32], end: u32, clock: u64)
     requires { (length sent.old ≡ 192) × (length numbers.now ≡ 192) × (length marks.now ≡ 192) }
-    ensures { sent.new ≡ replaced clock (flyingBelow numbers.now marks.now end) 0 sent.old }
+    ensures { sent.new ≡ replaced clock (flying_below numbers.now marks.now end) 0 sent.old }
 {
     let mut i = 0;
     while i < 192 {
@@ -140,7 +140,7 @@ fn stamp_all<'a>(sent: &mut [u64; 192], numbers: &'a [u32], marks: &'a [u32], en
 
 // The mark of one place after a resend: 1 where its packet is in flight with a number below end.
 fn repeat(resent: u32, number: u32, mark: u32, end: u32) -> u32
-    ensures { result ≡ (1 when (isFlying mark && ltb number end) else resent) }
+    ensures { result ≡ (1 when (is_flying mark && ltb number end) else resent) }
 {
     if mark != 2 {
         return resent;
@@ -154,7 +154,7 @@ fn repeat(resent: u32, number: u32, mark: u32, end: u32) -> u32
 // Marks the places in flight with numbers below end as sent more than once.
 fn repeat_all<'a>(resent: &mut [u32; 192], numbers: &'a [u32], marks: &'a [u32], end: u32)
     requires { (length resent.old ≡ 192) × (length numbers.now ≡ 192) × (length marks.now ≡ 192) }
-    ensures { resent.new ≡ replaced 1 (flyingBelow numbers.now marks.now end) 0 resent.old }
+    ensures { resent.new ≡ replaced 1 (flying_below numbers.now marks.now end) 0 resent.old }
 {
     let mut i = 0;
     while i < 192 {
@@ -167,7 +167,7 @@ fn repeat_all<'a>(resent: &mut [u32; 192], numbers: &'a [u32], marks: &'a [u32],
 // sampled RTO, is left out: `resend` resets the RTO just before it.
 fn stamped(s: Sender, end: u32, clock: u64) -> Sender
     requires { clock ≤ 1000000000000000 }
-    ensures { result ≡ resentBy s clock (flyingBelow s.numbers s.marks end) }
+    ensures { result ≡ resent_by s clock (flying_below s.numbers s.marks end) }
 {
     let mut sent = s.sent;
     stamp_all(&mut sent, &s.numbers, &s.marks, end, clock);
@@ -198,7 +198,7 @@ fn stamped(s: Sender, end: u32, clock: u64) -> Sender
 // resend where nothing keeps it from being done.
 pub(super) fn resend_done(s: Sender, clock: u64, path: bool) -> Resent
     requires { (rules s ≡ true) × (s.clock ≤ clock) × (clock ≤ 1000000000000000) }
-    ensures { resentOut result ≡ record { says = values (resendCount s clock path ∷ []); state = resendLeaves s clock path; lent = [] } }
+    ensures { resent_out result ≡ record { says = values (resend_count s clock path ∷ []); state = resend_leaves s clock path; lent = [] } }
 {
     let next = s.next.0;
     let window = s.window;

@@ -2,7 +2,7 @@
 mod again;
 
 ghost use Rattle.std.specs.Prelude.{◌≡◌};
-ghost use Rattle.sender_resend.specs.Resend.{resendOf, resentOut};
+ghost use Rattle.sender_resend.specs.Resend.{resend_of, resent_out};
 
 use sender_state::{Sender, Tally};
 use terms::Answer;
@@ -24,7 +24,7 @@ pub struct Expired {
 // When the timer is due, tells how many of the lowest packets in flight have expired and are to be sent again, and stamps them with
 // the clock; fetch by rank gives them. Ports `resend`.
 pub fn resend(s: Sender, clock: u64, path: bool) -> Resent
-    ensures { resentOut result ≡ resendOf s clock path }
+    ensures { resent_out result ≡ resend_of s clock path }
 {
     let answer = again::judge_resend(s, clock);
     match answer {

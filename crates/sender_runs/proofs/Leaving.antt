@@ -9,15 +9,15 @@ use native.Mathlib.Omega.{arith}
 use lib.ListN.{length}
 use Rattle.terms.specs.Answers.{values}
 use Rattle.sender_state.specs.Table.{◌!◌}
-use Rattle.sender_state.specs.Numbers.{inFlight}
-use Rattle.sender_send.specs.Send.{sendOf}
-use Rattle.sender_send.specs.Fetch.{fetchOf}
-use Rattle.sender_meaning.specs.Meaning.{packetIn, doesFly}
+use Rattle.sender_state.specs.Numbers.{in_flight}
+use Rattle.sender_send.specs.Send.{send_of}
+use Rattle.sender_send.specs.Fetch.{fetch_of}
+use Rattle.sender_meaning.specs.Meaning.{packet_in, does_fly}
 use Rattle.sender_meaning.proofs.Counts.{by_bool}
-use Rattle.sender_meaning.proofs.Sends.{send-changes}
+use Rattle.sender_meaning.proofs.Sends.{send_changes}
 use Rattle.sender_meaning.proofs.Fetches.{fetch-gives}
-use Rattle.sender_runs.specs.Runs.{Call, submit, send, acks, resend, fetch, Event, Kept, step_of, keptAfter, eventsOf, Run, begun, historyOf, end_of}
-use Rattle.sender_runs.specs.Remembers.{ackedIn}
+use Rattle.sender_runs.specs.Runs.{Call, submit, send, acks, resend, fetch, Event, Kept, step_of, kept_after, events_of, Run, begun, history_of, end_of}
+use Rattle.sender_runs.specs.Remembers.{acked_in}
 use Rattle.sender_runs.specs.Leaves.{SendLeaves, FetchLeaves, Leaves}
 use Rattle.sender_runs.proofs.Remembering.{remembers, flies-sent}
 
@@ -25,18 +25,18 @@ use Rattle.sender_runs.proofs.Remembering.{remembers, flies-sent}
 record Came (kept : Kept) (earlier : List Event) (e : Event) : Type 0 where
   calls : List Call
   call : Call
-  earlier-are : eventsOf kept calls ≡ earlier
-  is : (step_of (keptAfter kept calls) call).event ≡ e
+  earlier_are : events_of kept calls ≡ earlier
+  is : (step_of (kept_after kept calls) call).event ≡ e
 
-came : (kept : Kept) (calls : List Call) (earlier later : List Event) (e : Event) → eventsOf kept calls ≡ earlier ++ (e ∷ later) → Came kept earlier e
+came : (kept : Kept) (calls : List Call) (earlier later : List Event) (e : Event) → events_of kept calls ≡ earlier ++ (e ∷ later) → Came kept earlier e
 came kept [] [] later e h = let l = ap length h in absurd (omega arith)
 came kept [] (x ∷ more) later e h = let l = ap length h in absurd (omega arith)
-came kept (call ∷ rest) [] later e h = record { calls = []; call = call; earlier-are = refl; is = cc }
+came kept (call ∷ rest) [] later e h = record { calls = []; call = call; earlier_are = refl; is = cc }
 came kept (call ∷ rest) (x ∷ more) later e h =
-    let tail : eventsOf (step_of kept call).kept rest ≡ more ++ (e ∷ later) = cc in
+    let tail : events_of (step_of kept call).kept rest ≡ more ++ (e ∷ later) = cc in
     let first : (step_of kept call).event ≡ x = cc in
     let c = came (step_of kept call).kept rest more later e tail in
-    record { calls = call ∷ c.calls; call = c.call; earlier-are = let m = c.earlier-are in rw (first, m); is = c.is }
+    record { calls = call ∷ c.calls; call = c.call; earlier_are = let m = c.earlier_are in rw (first, m); is = c.is }
 
 -- the run of the calls before
 abbrev up_to : Run → List Call → Run
@@ -62,51 +62,51 @@ module _ (run : Run) (calls : List Call) where
   abbrev before : Kept
   before = end_of (up_to run calls)
 
-  send-leaves : (clock : ℕ) (output given : List ℕ) → (sendOf before.state clock before.store output).says ≡ values given
-      → (e : Event) → e.output ≡ (sendOf before.state clock before.store output).lent
-      → SendLeaves run (historyOf (up_to run calls)) e output given
-  send-leaves clock output given done e out =
+  send_leaves : (clock : ℕ) (output given : List ℕ) → (send_of before.state clock before.store output).says ≡ values given
+      → (e : Event) → e.output ≡ (send_of before.state clock before.store output).lent
+      → SendLeaves run (history_of (up_to run calls)) e output given
+  send_leaves clock output given done e out =
       let r = remembers (up_to run calls) in
-      let c = send-changes before.state clock before.store output given done r.sound in
+      let c = send_changes before.state clock before.store output given done r.sound in
       record {
         number = c.told;
         size = length c.packet;
         given_is = c.gives;
-        as-made = record {
+        as_made = record {
           packet = c.packet;
-          was-made = r.as-made c.told c.packet (ap packetIn c.was);
+          was-made = r.as_made c.told c.packet (ap packet_in c.was);
           size_is = refl;
           left_is = out ∙ c.output-is;
         };
       }
 
-  fetch-leaves : (rank : ℕ) (output given : List ℕ) → (fetchOf before.state rank before.store output).says ≡ values given
-      → (e : Event) → e.output ≡ (fetchOf before.state rank before.store output).output
-      → FetchLeaves run (historyOf (up_to run calls)) e output given
-  fetch-leaves rank output given done e out =
+  fetch_leaves : (rank : ℕ) (output given : List ℕ) → (fetch_of before.state rank before.store output).says ≡ values given
+      → (e : Event) → e.output ≡ (fetch_of before.state rank before.store output).output
+      → FetchLeaves run (history_of (up_to run calls)) e output given
+  fetch_leaves rank output given done e out =
       let r = remembers (up_to run calls) in
       let f = fetch-gives before.state rank before.store output r.sound given done in
-      let n = inFlight before.state ! rank in
-      let Made-so = r.as-made n f.packet (ap packetIn f.is) in
+      let n = in_flight before.state ! rank in
+      let Made-so = r.as_made n f.packet (ap packet_in f.is) in
       record {
         number = n;
         size = length f.packet;
         given_is = f.gives;
-        was-sent = flies-sent (up_to run calls) n (ap doesFly f.is);
-        not-acked = by_bool (ackedIn n (historyOf (up_to run calls)))
-            (λ t. absurd (true≢false (sym (ap doesFly f.is) ∙ ap doesFly (r.gone-when-acked n f.packet Made-so t))))
+        was-sent = flies-sent (up_to run calls) n (ap does_fly f.is);
+        not_acked = by_bool (acked_in n (history_of (up_to run calls)))
+            (λ t. absurd (true≢false (sym (ap does_fly f.is) ∙ ap does_fly (r.gone_when_acked n f.packet Made-so t))))
             (λ g. g);
-        as-made = record { packet = f.packet; was-made = Made-so; size_is = refl; left_is = out ∙ f.output-is };
+        as_made = record { packet = f.packet; was-made = Made-so; size_is = refl; left_is = out ∙ f.output-is };
       }
 
-pub leaves-as-made : (run : Run) → Leaves run
-leaves-as-made run = record {
-  by-send = λ earlier later e h clock output given a v.
+pub leaves_as_made : (run : Run) → Leaves run
+leaves_as_made run = record {
+  by_send = λ earlier later e h clock output given a v.
       let c = came (begun run.first run.chunk run.count run.store) run.calls earlier later e h in
       let is = by_call (end_of (up_to run c.calls)) c.call (send clock output) e c.is a in
-      rw (← c.earlier-are) (send-leaves run c.calls clock output given (ap (λ (x : Event). x.answered) is ∙ v) e (sym (ap (λ (x : Event). x.output) is)));
-  by-fetch = λ earlier later e h rank output given a v.
+      rw (← c.earlier_are) (send_leaves run c.calls clock output given (ap (λ (x : Event). x.answered) is ∙ v) e (sym (ap (λ (x : Event). x.output) is)));
+  by_fetch = λ earlier later e h rank output given a v.
       let c = came (begun run.first run.chunk run.count run.store) run.calls earlier later e h in
       let is = by_call (end_of (up_to run c.calls)) c.call (fetch rank output) e c.is a in
-      rw (← c.earlier-are) (fetch-leaves run c.calls rank output given (ap (λ (x : Event). x.answered) is ∙ v) e (sym (ap (λ (x : Event). x.output) is)));
+      rw (← c.earlier_are) (fetch_leaves run c.calls rank output given (ap (λ (x : Event). x.answered) is ∙ v) e (sym (ap (λ (x : Event). x.output) is)));
 }

@@ -12,24 +12,24 @@ use lib.ListN.{length}
 use Rattle.terms.proofs.Laws.{case}
 use Rattle.terms.specs.Answers.{values}
 use Rattle.receiver_calls.proofs.Laws.{by_said}
-use Rattle.sender_send.specs.Send.{sendOf}
-use Rattle.sender_acks.specs.Acks.{acksOf}
-use Rattle.sender_resend.specs.Resend.{resendOf}
-use Rattle.sender_submit.specs.Submit.{submitOf}
+use Rattle.sender_send.specs.Send.{send_of}
+use Rattle.sender_acks.specs.Acks.{acks_of}
+use Rattle.sender_resend.specs.Resend.{resend_of}
+use Rattle.sender_submit.specs.Submit.{submit_of}
 use Rattle.sender_submit_answer.specs.Answer.{chunks_of}
-use Rattle.sender_meaning.specs.Meaning.{gone, standing, doesWait, doesFly, Sound}
-use Rattle.sender_meaning.specs.Steps.{goesAgain}
+use Rattle.sender_meaning.specs.Meaning.{gone, standing, does_wait, does_fly, Sound}
+use Rattle.sender_meaning.specs.Steps.{goes_again}
 use Rattle.sender_meaning.proofs.Counts.{by_bool}
 use Rattle.sender_meaning.proofs.Starts.{start-sound, start-standing, start-chunk, start-count, start-next}
-use Rattle.sender_meaning.proofs.Submitting.{submit-refused, submit-done}
-use Rattle.sender_meaning.proofs.Sends.{send-nothing, send-changes, send-sound, send-fair}
-use Rattle.sender_meaning.proofs.Acks.{acks-nothing, acks-changes, acks-sound, acks-fair}
-use Rattle.sender_meaning.proofs.Resends.{resend-nothing, resend-changes, resend-sound, resend-fair}
-use Rattle.sender_meaning.proofs.Fetches.{fetch-fair}
-use Rattle.sender_runs.specs.Runs.{Call, submit, send, acks, resend, fetch, Event, Kept, step_of, keptAfter, eventsOf, Run, begun, historyOf}
-use Rattle.sender_runs.specs.Remembers.{fairTo, allFair, madeBy, madeIn, sentBy, sentIn, named_by, named_in, ackedIn, made, standingOf, Remembers}
-use Rattle.sender_runs.proofs.Lives.{SinceSent, later-packet, sent-later, resent-later, acked-later}
-use Rattle.sender_runs.proofs.Goes.{not_made, Goes, made-or-not, stayed, changed, goes_then, fair-submit, submitted}
+use Rattle.sender_meaning.proofs.Submitting.{submit-refused, submit_done}
+use Rattle.sender_meaning.proofs.Sends.{send-nothing, send_changes, send-sound, send_fair}
+use Rattle.sender_meaning.proofs.Acks.{acks-nothing, acks_changes, acks-sound, acks_fair}
+use Rattle.sender_meaning.proofs.Resends.{resend-nothing, resend_changes, resend-sound, resend_fair}
+use Rattle.sender_meaning.proofs.Fetches.{fetch_fair}
+use Rattle.sender_runs.specs.Runs.{Call, submit, send, acks, resend, fetch, Event, Kept, step_of, kept_after, events_of, Run, begun, history_of}
+use Rattle.sender_runs.specs.Remembers.{fair_to, all_fair, made_by, made_in, sent_by, sent_in, named_by, named_in, acked_in, made, standing_of, Remembers}
+use Rattle.sender_runs.proofs.Lives.{SinceSent, later-packet, sent-later, resent-later, acked_later}
+use Rattle.sender_runs.proofs.Goes.{not_made, Goes, made_or_not, stayed, changed, goes_then, fair_submit, submitted}
 
 -- acks that named a number before a send told it do not count, and those after it do
 abbrev telling : Event
@@ -38,79 +38,79 @@ telling = record { asked = send 0 []; next = 2; answered = values (1 ∷ 23 ∷ 
 abbrev naming : Event
 naming = record { asked = acks 1 [] 0; next = 2; answered = values (0 ∷ []); output = [] }
 
-early-acks : ackedIn 1 (naming ∷ telling ∷ []) ≡ false
-early-acks = refl
+early_acks : acked_in 1 (naming ∷ telling ∷ []) ≡ false
+early_acks = refl
 
-later-acks : ackedIn 1 (telling ∷ naming ∷ []) ≡ true
+later-acks : acked_in 1 (telling ∷ naming ∷ []) ≡ true
 later-acks = refl
 
 -- acks count from the send on
-acked-counts : (n : ℕ) (e : Event) (rest : List Event) → SinceSent (sentBy n e.asked e.answered) (named_in n rest) (ackedIn n rest) (ackedIn n (e ∷ rest))
-acked-counts n e rest = record { once-sent = λ t. rw t; not_yet = λ f. rw f }
+acked_counts : (n : ℕ) (e : Event) (rest : List Event) → SinceSent (sent_by n e.asked e.answered) (named_in n rest) (acked_in n rest) (acked_in n (e ∷ rest))
+acked_counts n e rest = record { once_sent = λ t. rw t; not_yet = λ f. rw f }
 
 -- every call goes on
 step : (chunk : ℕ) (kept : Kept) (call : Call) → kept.state.chunk ≡ chunk → Sound kept.state kept.store
-    → Goes kept (step_of kept call).kept (fairTo (step_of kept call).event.asked (step_of kept call).event.answered)
-    (λ n. madeBy chunk n (step_of kept call).event.asked (step_of kept call).event.next (step_of kept call).event.answered)
-    (λ n. sentBy n (step_of kept call).event.asked (step_of kept call).event.answered) (λ n. named_by n (step_of kept call).event.asked (step_of kept call).event.answered) (λ n. false)
+    → Goes kept (step_of kept call).kept (fair_to (step_of kept call).event.asked (step_of kept call).event.answered)
+    (λ n. made_by chunk n (step_of kept call).event.asked (step_of kept call).event.next (step_of kept call).event.answered)
+    (λ n. sent_by n (step_of kept call).event.asked (step_of kept call).event.answered) (λ n. named_by n (step_of kept call).event.asked (step_of kept call).event.answered) (λ n. false)
 step chunk kept (submit r to from bytes) is sound =
     let s = kept.state in
     let store = kept.store in
     let after = (step_of kept (submit r to from bytes)).kept in
-    let fair = fair-submit s r to from bytes store sound in
-    by_said (submitOf s r to from bytes store).says
+    let fair = fair_submit s r to from bytes store sound in
+    by_said (submit_of s r to from bytes store).says
     (λ n q.
     let k = submit-refused s r to from bytes store n q in
     stayed kept after _ _ _ _ (λ m. rw q) fair sound k.0 k.1 (λ m. refl) (λ m. refl))
     (λ given q.
-    let p : (submitOf s r to from bytes store).says ≡ values (chunks_of s.chunk (length bytes) ∷ []) = q ∙ ap values (submit-done s r to from bytes store given q).gives in
+    let p : (submit_of s r to from bytes store).says ≡ values (chunks_of s.chunk (length bytes) ∷ []) = q ∙ ap values (submit_done s r to from bytes store given q).gives in
     rw p (submitted kept r to from bytes sound (chunks_of s.chunk (length bytes)) p chunk is _ (rw p at fair)))
 step chunk kept (send clock output) is sound =
     let s = kept.state in
     let store = kept.store in
     let after = (step_of kept (send clock output)).kept in
-    let fair = send-fair s clock store output sound in
-    by_said (sendOf s clock store output).says
+    let fair = send_fair s clock store output sound in
+    by_said (send_of s clock store output).says
     (λ n q. stayed kept after _ _ _ _ (λ m. refl) fair sound (send-nothing s clock store output n q).0 refl (λ m. rw q) (λ m. refl))
     (λ given q.
-    let c = send-changes s clock store output given q sound in
+    let c = send_changes s clock store output given q sound in
     changed kept after _ _ _ _ (λ m. refl) fair (send-sound s clock store output sound) refl c.chunk-is c.count-is c.next-is
     (λ n.
-    let told : (sendOf s clock store output).says ≡ values (c.told ∷ length c.packet ∷ []) = q ∙ ap values c.gives in
-    rw (c.now-is n, told) (sent-later c.told clock n c.packet (standing s store n) (λ e. ap (standing s store) e ∙ c.was))))
+    let told : (send_of s clock store output).says ≡ values (c.told ∷ length c.packet ∷ []) = q ∙ ap values c.gives in
+    rw (c.now_is n, told) (sent-later c.told clock n c.packet (standing s store n) (λ e. ap (standing s store) e ∙ c.was))))
 step chunk kept (acks through nacks clock) is sound =
     let s = kept.state in
     let store = kept.store in
     let after = (step_of kept (acks through nacks clock)).kept in
-    let fair = acks-fair s through nacks clock store sound in
-    by_said (acksOf s through nacks clock).says
+    let fair = acks_fair s through nacks clock store sound in
+    by_said (acks_of s through nacks clock).says
     (λ n q. stayed kept after _ _ _ _ (λ m. refl) fair sound (acks-nothing s through nacks clock n q) refl (λ m. refl) (λ m. rw q))
     (λ given q.
-    let c = acks-changes s through nacks clock store sound given q in
+    let c = acks_changes s through nacks clock store sound given q in
     changed kept after _ _ _ _ (λ m. refl) fair (acks-sound s through nacks clock store sound) refl c.chunk-is c.count-is c.next-is
-    (λ n. rw (c.now-is n, q) (acked-later through nacks n (standing s store n))))
+    (λ n. rw (c.now_is n, q) (acked_later through nacks n (standing s store n))))
 step chunk kept (resend clock path) is sound =
     let s = kept.state in
     let store = kept.store in
     let after = (step_of kept (resend clock path)).kept in
-    let fair = resend-fair s clock path store sound in
-    by_said (resendOf s clock path).says
+    let fair = resend_fair s clock path store sound in
+    by_said (resend_of s clock path).says
     (λ n q. stayed kept after _ _ _ _ (λ m. refl) fair sound (resend-nothing s clock path n q) refl (λ m. refl) (λ m. refl))
     (λ given q.
-    let c = resend-changes s clock path store sound given q in
+    let c = resend_changes s clock path store sound given q in
     changed kept after _ _ _ _ (λ m. refl) fair (resend-sound s clock path store sound) refl c.chunk-is c.count-is c.next-is
-    (λ n. rw (c.now-is n) (resent-later (goesAgain s clock path) clock n (standing s store n))))
+    (λ n. rw (c.now_is n) (resent-later (goes_again s clock path) clock n (standing s store n))))
 step chunk kept (fetch rank output) is sound =
-    stayed kept kept _ _ _ _ (λ m. refl) (fetch-fair kept.state rank kept.store output sound) sound refl refl (λ m. refl) (λ m. refl)
+    stayed kept kept _ _ _ _ (λ m. refl) (fetch_fair kept.state rank kept.store output sound) sound refl refl (λ m. refl) (λ m. refl)
 
 -- and so does every list of calls
 steps : (chunk : ℕ) (kept : Kept) (calls : List Call) → kept.state.chunk ≡ chunk → Sound kept.state kept.store
-    → Goes kept (keptAfter kept calls) (allFair (eventsOf kept calls)) (λ n. madeIn chunk n (eventsOf kept calls)) (λ n. sentIn n (eventsOf kept calls)) (λ n. named_in n (eventsOf kept calls))
-    (λ n. ackedIn n (eventsOf kept calls))
+    → Goes kept (kept_after kept calls) (all_fair (events_of kept calls)) (λ n. made_in chunk n (events_of kept calls)) (λ n. sent_in n (events_of kept calls)) (λ n. named_in n (events_of kept calls))
+    (λ n. acked_in n (events_of kept calls))
 steps chunk kept [] is sound = stayed kept kept true _ _ _ (λ m. refl) refl sound refl refl (λ m. refl) (λ m. refl)
 steps chunk kept (call ∷ rest) is sound =
     let one = step chunk kept call is sound in
-    goes_then kept (step_of kept call).kept _ _ _ _ _ _ _ _ _ _ _ (λ n. acked-counts n (step_of kept call).event (eventsOf (step_of kept call).kept rest)) one (steps chunk (step_of kept call).kept rest (one.chunk-is ∙ is) one.sound)
+    goes_then kept (step_of kept call).kept _ _ _ _ _ _ _ _ _ _ _ (λ n. acked_counts n (step_of kept call).event (events_of (step_of kept call).kept rest)) one (steps chunk (step_of kept call).kept rest (one.chunk-is ∙ is) one.sound)
 
 pub remembers : (run : Run) → Remembers run
 remembers run =
@@ -126,53 +126,53 @@ remembers run =
       store_length = g.long;
       chunk-is = g.chunk-is ∙ chunk;
       count-is = g.count-is ∙ start-count first run.chunk run.count run.store run.started;
-      never-11-or-10 = g.fairly;
+      never_11_or_10 = g.fairly;
       made_range = λ n packet e. let w = g.range n packet e in (omega (arith, next), w.1);
-      unmade-is = λ n h e. (g.still n e).unmade-stays (stands n ∙ rw (le-leb first.0 n h));
-      waits-until-sent = λ n packet e. (g.fresh n packet e).waits-on packet refl;
-      flies-until-acked = λ n packet e. (g.fresh n packet e).sent-flies packet refl;
-      gone-when-acked = λ n packet e. (g.fresh n packet e).acked-gone packet refl;
+      unmade-is = λ n h e. (g.still n e).unmade_stays (stands n ∙ rw (le-leb first.0 n h));
+      waits_until_sent = λ n packet e. (g.fresh n packet e).waits_on packet refl;
+      flies_until_acked = λ n packet e. (g.fresh n packet e).sent-flies packet refl;
+      gone_when_acked = λ n packet e. (g.fresh n packet e).acked_gone packet refl;
       sent-made = λ n z.
           case
           (λ (a : first.0 ≤ n). (g.still n z).unmade-unsent (stands n ∙ rw (le-leb first.0 n a)))
           (λ (a : first.0 ≤ n → ⊥). (g.still n z).gone-unsent (stands n ∙ rw (lt-leb first.0 n (omega arith))))
           (dec_le first.0 n);
-      as-made = λ n packet e.
-          made-or-not (madeIn run.chunk n (historyOf run))
+      as_made = λ n packet e.
+          made_or_not (made_in run.chunk n (history_of run))
           (λ z.
           case
-          (λ (a : first.0 ≤ n). let u = (g.still n z).unmade-stays (stands n ∙ rw (le-leb first.0 n a)) in let f = rw u at e in not_made f refl)
-          (λ (a : first.0 ≤ n → ⊥). let u = (g.still n z).gone-stays (stands n ∙ rw (lt-leb first.0 n (omega arith))) in let f = rw u at e in not_made f refl)
+          (λ (a : first.0 ≤ n). let u = (g.still n z).unmade_stays (stands n ∙ rw (le-leb first.0 n a)) in let f = rw u at e in not_made f refl)
+          (λ (a : first.0 ≤ n → ⊥). let u = (g.still n z).gone_stays (stands n ∙ rw (lt-leb first.0 n (omega arith))) in let f = rw u at e in not_made f refl)
           (dec_le first.0 n))
           (λ p z. z ∙ later-packet _ _ _ p packet _ (g.fresh n p z) e);
       below-first = λ n h.
-          made-or-not (madeIn run.chunk n (historyOf run))
-          (λ z. (g.still n z).gone-stays (stands n ∙ rw (lt-leb first.0 n h)))
+          made_or_not (made_in run.chunk n (history_of run))
+          (λ z. (g.still n z).gone_stays (stands n ∙ rw (lt-leb first.0 n h)))
           (λ p z. absurd (omega (arith, next, (g.range n p z).0)));
     }
 
 -- what was made is gone only where a send told it and acks that came later named it
-pub gone-acked : (run : Run) (n : ℕ) (packet : List ℕ) → made run n ≡ some packet → standingOf run n ≡ gone → ackedIn n (historyOf run) ≡ true
-gone-acked run n packet e g =
+pub gone_acked : (run : Run) (n : ℕ) (packet : List ℕ) → made run n ≡ some packet → standing_of run n ≡ gone → acked_in n (history_of run) ≡ true
+gone_acked run n packet e g =
     let r = remembers run in
-    by_bool (ackedIn n (historyOf run))
+    by_bool (acked_in n (history_of run))
     (λ t. t)
     (λ f.
-    by_bool (sentIn n (historyOf run))
-    (λ s. absurd (true≢false (sym (r.flies-until-acked n packet e s f).1 ∙ ap doesFly g)))
-    (λ s. absurd (true≢false (sym (ap doesWait (r.waits-until-sent n packet e s)) ∙ ap doesWait g))))
+    by_bool (sent_in n (history_of run))
+    (λ s. absurd (true≢false (sym (r.flies_until_acked n packet e s f).1 ∙ ap does_fly g)))
+    (λ s. absurd (true≢false (sym (ap does_wait (r.waits_until_sent n packet e s)) ∙ ap does_wait g))))
 
 -- what flies was told by a send
-pub flies-sent : (run : Run) (n : ℕ) → doesFly (standingOf run n) ≡ true → sentIn n (historyOf run) ≡ true
+pub flies-sent : (run : Run) (n : ℕ) → does_fly (standing_of run n) ≡ true → sent_in n (history_of run) ≡ true
 flies-sent run n t =
     let r = remembers run in
-    by_bool (sentIn n (historyOf run))
+    by_bool (sent_in n (history_of run))
     (λ s. s)
     (λ f.
-    made-or-not (made run n)
+    made_or_not (made run n)
     (λ z.
     case
-    (λ (a : run.first.0 ≤ n). absurd (true≢false (sym t ∙ ap doesFly (r.unmade-is n a z))))
-    (λ (a : run.first.0 ≤ n → ⊥). absurd (true≢false (sym t ∙ ap doesFly (r.below-first n (omega arith)))))
+    (λ (a : run.first.0 ≤ n). absurd (true≢false (sym t ∙ ap does_fly (r.unmade-is n a z))))
+    (λ (a : run.first.0 ≤ n → ⊥). absurd (true≢false (sym t ∙ ap does_fly (r.below-first n (omega arith)))))
     (dec_le run.first.0 n))
-    (λ p z. absurd (true≢false (sym t ∙ ap doesFly (r.waits-until-sent n p z f)))))
+    (λ p z. absurd (true≢false (sym t ∙ ap does_fly (r.waits_until_sent n p z f)))))

@@ -7,11 +7,11 @@ use Rattle.terms.specs.Answers.{Said, values}
 use Rattle.receiver_state.specs.declared.Receiver.{Receiver}
 use Rattle.sender_state.specs.Start.{start_of}
 use Rattle.sender_state.specs.declared.Sender.{Sender}
-use Rattle.sender_send.specs.Send.{sendOf}
-use Rattle.sender_acks.specs.Acks.{acksOf}
-use Rattle.sender_resend.specs.Resend.{resendOf}
-use Rattle.sender_send.specs.Fetch.{fetchOf}
-use Rattle.sender_submit.specs.Submit.{submitOf}
+use Rattle.sender_send.specs.Send.{send_of}
+use Rattle.sender_acks.specs.Acks.{acks_of}
+use Rattle.sender_resend.specs.Resend.{resend_of}
+use Rattle.sender_send.specs.Fetch.{fetch_of}
+use Rattle.sender_submit.specs.Submit.{submit_of}
 
 -- a call, with what it is given beside the state and the store
 pub data Call : Type 0 where
@@ -47,45 +47,45 @@ pub record Step : Type 0 where
 -- one call
 abbrev pub step_of : Kept → Call → Step
 step_of before (submit r to from bytes) =
-    let outcome = submitOf before.state r to from bytes before.store in
+    let outcome = submit_of before.state r to from bytes before.store in
     record {
       event = record { asked = submit r to from bytes; next = before.state.next.0; answered = outcome.says; output = [] };
       kept = record { state = outcome.state; store = outcome.lent };
     }
 step_of before (send clock output) =
-    let outcome = sendOf before.state clock before.store output in
+    let outcome = send_of before.state clock before.store output in
     record {
       event = record { asked = send clock output; next = before.state.next.0; answered = outcome.says; output = outcome.lent };
       kept = record { state = outcome.state; store = before.store };
     }
 step_of before (acks through nacks clock) =
-    let outcome = acksOf before.state through nacks clock in
+    let outcome = acks_of before.state through nacks clock in
     record {
       event = record { asked = acks through nacks clock; next = before.state.next.0; answered = outcome.says; output = [] };
       kept = record { state = outcome.state; store = before.store };
     }
 step_of before (resend clock path) =
-    let outcome = resendOf before.state clock path in
+    let outcome = resend_of before.state clock path in
     record {
       event = record { asked = resend clock path; next = before.state.next.0; answered = outcome.says; output = [] };
       kept = record { state = outcome.state; store = before.store };
     }
 step_of before (fetch rank output) =
-    let outcome = fetchOf before.state rank before.store output in
+    let outcome = fetch_of before.state rank before.store output in
     record {
       event = record { asked = fetch rank output; next = before.state.next.0; answered = outcome.says; output = outcome.output };
       kept = before;
     }
 
 -- what a list of calls leaves
-abbrev pub keptAfter : Kept → List Call → Kept
-keptAfter before [] = before
-keptAfter before (call ∷ rest) = keptAfter (step_of before call).kept rest
+abbrev pub kept_after : Kept → List Call → Kept
+kept_after before [] = before
+kept_after before (call ∷ rest) = kept_after (step_of before call).kept rest
 
 -- and what was asked and answered on the way, the first call first
-abbrev pub eventsOf : Kept → List Call → List Event
-eventsOf before [] = []
-eventsOf before (call ∷ rest) = (step_of before call).event ∷ eventsOf (step_of before call).kept rest
+abbrev pub events_of : Kept → List Call → List Event
+events_of before [] = []
+events_of before (call ∷ rest) = (step_of before call).event ∷ events_of (step_of before call).kept rest
 
 -- A number of these definitions has no bound. The first number of the code is below 2^32; every call may be asked with any number.
 pub record Run : Type 0 where
@@ -104,9 +104,9 @@ abbrev pub begun : SeqNo → ℕ → ℕ → List ℕ → Kept
 begun first chunk count store = record { state = (start_of first chunk count (length store)).state; store = store }
 
 -- the history of a run
-abbrev pub historyOf : Run → List Event
-historyOf run = eventsOf (begun run.first run.chunk run.count run.store) run.calls
+abbrev pub history_of : Run → List Event
+history_of run = events_of (begun run.first run.chunk run.count run.store) run.calls
 
 -- the state and the store at its end
 abbrev pub end_of : Run → Kept
-end_of run = keptAfter (begun run.first run.chunk run.count run.store) run.calls
+end_of run = kept_after (begun run.first run.chunk run.count run.store) run.calls

@@ -1,26 +1,26 @@
 -- What fetch does, whatever it is given: its answer, and what it leaves of the output. It changes no state.
 use Rattle.std.specs.Prelude.{ℕ, not, List, [], ◌∷◌, leb, ltb, length}
 use Rattle.terms.specs.Ladder.{◌when◌else◌}
-use Rattle.terms.specs.Lists.{◌atFrontOf◌}
-use Rattle.terms.specs.Answers.{Said, refusal, values, ◌unlessRefused◌else◌, said_of}
+use Rattle.terms.specs.Lists.{◌at_front_of◌}
+use Rattle.terms.specs.Answers.{Said, refusal, values, ◌unless_refused◌else◌, said_of}
 use Rattle.terms.specs.declared.Given.{Given}
 use Rattle.sender_state.specs.Table.{◌!◌}
-use Rattle.sender_state.specs.Rules.{rules, sizesFit}
+use Rattle.sender_state.specs.Rules.{rules, sizes_fit}
 use Rattle.sender_state.specs.declared.Sender.{Sender}
-use Rattle.sender_state.specs.Numbers.{inFlight, size_of, storedPacket}
+use Rattle.sender_state.specs.Numbers.{in_flight, size_of, stored_packet}
 
 -- the answer, by document 01's numbers in its order; rank 0 is the lowest number in flight
-unfoldable pub fetchSaid : Sender → ℕ → ℕ → ℕ → Said
-fetchSaid s rank storeLength room =
+unfoldable pub fetch_said : Sender → ℕ → ℕ → ℕ → Said
+fetch_said s rank store_length room =
     -- state breaks the rules
     refusal 11 when not (rules s) else
     -- chunk size, slot count or store length wrong
-    refusal 10 when not (sizesFit s.chunk s.count storeLength) else
+    refusal 10 when not (sizes_fit s.chunk s.count store_length) else
     -- no such rank in flight
-    refusal 17 when leb (length (inFlight s)) rank else
+    refusal 17 when leb (length (in_flight s)) rank else
     -- output shorter than needed
-    refusal 7 when ltb room (size_of s (inFlight s ! rank)) else
-    values (size_of s (inFlight s ! rank) ∷ [])
+    refusal 7 when ltb room (size_of s (in_flight s ! rank)) else
+    values (size_of s (in_flight s ! rank) ∷ [])
 
 -- what it says, and what it leaves of the output
 pub record Fetches : Type 0 where
@@ -28,12 +28,12 @@ pub record Fetches : Type 0 where
   pub output : List ℕ
 
 -- where it is done, the packet stands at the output's front
-unfoldable pub fetchOf : Sender → ℕ → List ℕ → List ℕ → Fetches
-fetchOf s rank store output =
-    let answer = fetchSaid s rank (length store) (length output) in
+unfoldable pub fetch_of : Sender → ℕ → List ℕ → List ℕ → Fetches
+fetch_of s rank store output =
+    let answer = fetch_said s rank (length store) (length output) in
     record {
       says = answer;
-      output = storedPacket s store (inFlight s ! rank) atFrontOf output unlessRefused answer else output;
+      output = stored_packet s store (in_flight s ! rank) at_front_of output unless_refused answer else output;
     }
 
 -- results of the code, as an outcome

@@ -2,5 +2,5 @@
 use Rattle.std.specs.Prelude.{ℕ, List, get_or}
 
 -- the number at a rank, and 4,294,967,295 where there is none
-abbrev pub atRank : List ℕ → ℕ → ℕ
-atRank l rank = get_or l rank 4294967295
+abbrev pub at_rank : List ℕ → ℕ → ℕ
+at_rank l rank = get_or l rank 4294967295

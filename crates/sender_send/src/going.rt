@@ -1,6 +1,6 @@
 // send: a waiting packet leaves.
 ghost use Rattle.std.specs.Prelude.{◌≡◌, ◌<◌};
-ghost use Rattle.sender_send.specs.Send.{armed, moved, sendSaid, saidSent};
+ghost use Rattle.sender_send.specs.Send.{armed, moved, send_said, said_sent};
 
 use super::{Departure, table};
 use sender_state::{Sender, Timer};
@@ -8,7 +8,7 @@ use terms::{Refusal, SeqNo};
 
 // What send answers: the first refusal that applies, in document 01's order, or the packet that leaves.
 pub(super) fn judge_send(s: Sender, clock: u64, store_length: usize, room: usize) -> Departure
-    ensures { saidSent result ≡ sendSaid s clock store_length room }
+    ensures { said_sent result ≡ send_said s clock store_length room }
 {
     let chunk = s.chunk;
     let count = s.count;

@@ -4,8 +4,8 @@ mod going;
 mod table;
 
 ghost use Rattle.std.specs.Prelude.{◌≡◌};
-ghost use Rattle.sender_send.specs.Fetch.{fetchOf, fetched};
-ghost use Rattle.sender_send.specs.Send.{sendOf, sentOut};
+ghost use Rattle.sender_send.specs.Fetch.{fetch_of, fetched};
+ghost use Rattle.sender_send.specs.Send.{send_of, sent_out};
 
 use sender_state::Sender;
 use terms::{Given, Refusal, SeqNo};
@@ -27,7 +27,7 @@ pub struct Sent {
 // Copies out the packet at a rank of those in flight, 0 being the lowest number. Stands for the sending in `resend`: the host asks
 // for as many as resend told.
 pub fn fetch(s: Sender, rank: u32, store: &[u8], output: &mut [u8]) -> Given
-    ensures { fetched result output.new ≡ fetchOf s rank store.now output.old }
+    ensures { fetched result output.new ≡ fetch_of s rank store.now output.old }
 {
     let chunk = s.chunk;
     let count = s.count;
@@ -54,7 +54,7 @@ pub fn fetch(s: Sender, rank: u32, store: &[u8], output: &mut [u8]) -> Given
 // Moves the lowest waiting packet in flight and copies it out. Ports one turn of the sending loop of `poll`, mended: the host calls
 // once for each packet that it can take.
 pub fn send(s: Sender, clock: u64, store: &[u8], output: &mut [u8]) -> Sent
-    ensures { sentOut result output.new ≡ sendOf s clock store.now output.old }
+    ensures { sent_out result output.new ≡ send_of s clock store.now output.old }
 {
     let answer = going::judge_send(s, clock, store.len(), output.len());
     match answer {

@@ -19,14 +19,14 @@ module _ (value : ℕ) (p : ℕ → Bool) where
   replaced-length i [] = refl
   replaced-length i (x ∷ l) = ap suc (replaced-length (suc i) l)
 
-  replaced-from : (i : ℕ) (l : List ℕ) (k : ℕ) → k < length l → replaced value p i l ! k ≡ (value when p (i + k) else (l ! k))
+  replaced_from : (i : ℕ) (l : List ℕ) (k : ℕ) → k < length l → replaced value p i l ! k ≡ (value when p (i + k) else (l ! k))
   unfolding replaced
-  replaced-from i [] k h = absurd (not-suc-le-zero h)
-  replaced-from i (x ∷ l) zero h = ap (λ (n : ℕ). value when p n else x) (omega arith)
-  replaced-from i (x ∷ l) (suc k) h = replaced-from (suc i) l k (le_of_suc-le-suc h) ∙ ap (λ (n : ℕ). value when p n else (l ! k)) (suc-add i k ∙ sym (add-suc i k))
+  replaced_from i [] k h = absurd (not-suc-le-zero h)
+  replaced_from i (x ∷ l) zero h = ap (λ (n : ℕ). value when p n else x) (omega arith)
+  replaced_from i (x ∷ l) (suc k) h = replaced_from (suc i) l k (le_of_suc-le-suc h) ∙ ap (λ (n : ℕ). value when p n else (l ! k)) (suc-add i k ∙ sym (add-suc i k))
 
-  pub replaced-at : (l : List ℕ) (k : ℕ) → k < length l → replaced value p 0 l ! k ≡ (value when p k else (l ! k))
-  replaced-at l k h = replaced-from 0 l k h ∙ ap (λ (n : ℕ). value when p n else (l ! k)) (zero-add k)
+  pub replaced_at : (l : List ℕ) (k : ℕ) → k < length l → replaced value p 0 l ! k ≡ (value when p k else (l ! k))
+  replaced_at l k h = replaced_from 0 l k h ∙ ap (λ (n : ℕ). value when p n else (l ! k)) (zero-add k)
 
   -- the loop: the first i places are done, the rest is as it was
   pub record Replacing (old now : List ℕ) (i : ℕ) : Type 0 where
@@ -35,11 +35,11 @@ module _ (value : ℕ) (p : ℕ → Bool) where
     pub done : (k : ℕ) → k < i → now ! k ≡ (value when p k else (old ! k))
     pub left : (k : ℕ) → i ≤ k → now ! k ≡ old ! k
 
-  pub replace-start : (old : List ℕ) → length old ≡ 192 → Replacing old old 0
-  replace-start old h = record { high = omega arith; long = h; done = λ k a. absurd (not-suc-le-zero a); left = λ k a. refl }
+  pub replace_start : (old : List ℕ) → length old ≡ 192 → Replacing old old 0
+  replace_start old h = record { high = omega arith; long = h; done = λ k a. absurd (not-suc-le-zero a); left = λ k a. refl }
 
-  pub replace-more : (old now : List ℕ) (i : ℕ) → Replacing old now i → i < 192 → (x : ℕ) → x ≡ (value when p i else (now ! i)) → Replacing old (set now i x) (i + 1)
-  replace-more old now i r h x e = record {
+  pub replace_more : (old now : List ℕ) (i : ℕ) → Replacing old now i → i < 192 → (x : ℕ) → x ≡ (value when p i else (now ! i)) → Replacing old (set now i x) (i + 1)
+  replace_more old now i r h x e = record {
     high = omega arith;
     long = simp length-set r.long;
     done = λ k a.
@@ -50,7 +50,7 @@ module _ (value : ℕ) (p : ℕ → Bool) where
     left = λ k a. get_or-set_other now i k x 0 (λ q. omega arith) ∙ r.left k (omega arith);
   }
 
-  pub replace-end : (old now : List ℕ) (i : ℕ) → Replacing old now i → length old ≡ 192 → 192 ≤ i → now ≡ replaced value p 0 old
-  replace-end old now i r h b =
+  pub replace_end : (old now : List ℕ) (i : ℕ) → Replacing old now i → length old ≡ 192 → 192 ≤ i → now ≡ replaced value p 0 old
+  replace_end old now i r h b =
       ext_get_or 0 now (replaced value p 0 old) (r.long ∙ sym h ∙ sym (replaced-length 0 old))
-      (λ k a. r.done k (omega (arith, r.long)) ∙ sym (replaced-at old k (omega (arith, r.long))))
+      (λ k a. r.done k (omega (arith, r.long)) ∙ sym (replaced_at old k (omega (arith, r.long))))

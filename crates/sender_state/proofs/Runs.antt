@@ -1,7 +1,7 @@
 -- Runs of numbers that pass a test, ascending. Assumes nothing.
 use Prim.Native.Nat.{ℕ, zero, suc, ◌+◌, ◌-◌, ◌≤◌, ◌<◌}
 use mathlib.Core.Path.{◌≡◌, refl, sym, ◌∙◌, ap}
-use mathlib.Core.Bool.{Bool, true, false, and-false}
+use mathlib.Core.Bool.{Bool, true, false, and_false}
 use mathlib.Core.List.{List, [], ◌∷◌, ◌++◌}
 use native.Mathlib.Nat.{zero-add, add-zero, suc-add, not-suc-le-zero, le_of_suc-le-suc}
 use native.Mathlib.Numerals.{add-one}
@@ -36,8 +36,8 @@ module _ (p : ℕ → Bool) where
       rw (suc-add d e, f from (omega arith) (omega arith))
       (skip d (suc from) e (λ m a b. f m (omega arith) (omega arith)) ∙ ap (λ (k : ℕ). run p k e) (omega arith))
 
-  pub run-from : (from n next : ℕ) → from ≤ n → n ≤ next → ((m : ℕ) → from ≤ m → m < n → p m ≡ false) → run p from (next - from) ≡ run p n (next - n)
-  run-from from n next a b f =
+  pub run_from : (from n next : ℕ) → from ≤ n → n ≤ next → ((m : ℕ) → from ≤ m → m < n → p m ≡ false) → run p from (next - from) ≡ run p n (next - n)
+  run_from from n next a b f =
       let e : next - from ≡ (n - from) + (next - n) = omega arith in
       let g : from + (n - from) ≡ n = omega arith in
       ap (run p from) e ∙ skip (n - from) from (next - n) (λ m x y. f m x (omega arith)) ∙ ap (λ (k : ℕ). run p k (next - n)) g
@@ -46,7 +46,7 @@ module _ (p : ℕ → Bool) where
   unfolding run
   run_none from next f =
       case
-      (λ (q : from < next). run-from from next next (omega arith) (omega arith) f ∙ (let e : next - next ≡ 0 = omega arith in rw e))
+      (λ (q : from < next). run_from from next next (omega arith) (omega arith) f ∙ (let e : next - next ≡ 0 = omega arith in rw e))
       (λ (q : from < next → ⊥). let e : next - from ≡ 0 = omega arith in rw e)
       (dec_lt from next)
 
@@ -64,10 +64,10 @@ both P false x l k f g h = g k h
 
 -- each number of a run passes, and lies below its end
 module _ (p : ℕ → Bool) where
-  pub run-passes : (count from k : ℕ) → k < length (run p from count) → p (run p from count ! k) ≡ true
+  pub run_passes : (count from k : ℕ) → k < length (run p from count) → p (run p from count ! k) ≡ true
   unfolding run
-  run-passes zero from k h = absurd (not-suc-le-zero h)
-  run-passes (suc count) from k h = both (λ n. p n ≡ true) (p from) from (run p (suc from) count) k (λ e. e) (λ k h. run-passes count (suc from) k h) h
+  run_passes zero from k h = absurd (not-suc-le-zero h)
+  run_passes (suc count) from k h = both (λ n. p n ≡ true) (p from) from (run p (suc from) count) k (λ e. e) (λ k h. run_passes count (suc from) k h) h
 
   pub run-below : (count from k : ℕ) → k < length (run p from count) → run p from count ! k < from + count
   unfolding run
@@ -77,22 +77,22 @@ module _ (p : ℕ → Bool) where
 
 -- a number is in a run where it passes and lies within it, and else not
 module _ (p : ℕ → Bool) (n : ℕ) where
-  pub in-run : (count from : ℕ) → from ≤ n → n < from + count → p n ≡ true → all (differs n) (run p from count) ≡ false
+  pub in_run : (count from : ℕ) → from ≤ n → n < from + count → p n ≡ true → all (differs n) (run p from count) ≡ false
   unfolding run
-  in-run zero from a b t = absurd (omega arith)
-  in-run (suc count) from a b t =
+  in_run zero from a b t = absurd (omega arith)
+  in_run (suc count) from a b t =
       case
       (λ (e : from ≡ n). rw (ap p e ∙ t, eq-eqb from n e))
       (λ (o : from ≡ n → ⊥).
       rung (λ (l : List ℕ). all (differs n) l ≡ false) (p from)
-      (λ _. rw (in-run count (suc from) (omega (arith, o)) (omega arith) t) (and-false (differs n from)))
-      (λ _. in-run count (suc from) (omega (arith, o)) (omega arith) t))
+      (λ _. rw (in_run count (suc from) (omega (arith, o)) (omega arith) t) (and_false (differs n from)))
+      (λ _. in_run count (suc from) (omega (arith, o)) (omega arith) t))
       (ℕ_discrete from n)
 
   pub not_in : (count from : ℕ) → (p n ≡ true → n < from + count → ⊥) → all (differs n) (run p from count) ≡ true
   not_in count from f =
       all_of (differs n) (run p from count)
-      (λ k h. rw (ne_eqb (run p from count ! k) n (λ e. f (sym (ap p e) ∙ run-passes p count from k h) (omega (arith, run-below p count from k h)))))
+      (λ k h. rw (ne_eqb (run p from count ! k) n (λ e. f (sym (ap p e) ∙ run_passes p count from k h) (omega (arith, run-below p count from k h)))))
 
 -- a run in two parts
 pub run-append : (p : ℕ → Bool) (a from b : ℕ) → run p from (a + b) ≡ run p from a ++ run p (from + a) b

@@ -9,38 +9,38 @@ use native.Mathlib.Omega.{arith}
 use borrow.Author.Tests.{eq-eqb, ne_eqb, eqb-true, lt-ltb, le-ltb}
 use lib.ListN.{length}
 use Rattle.terms.proofs.Laws.{case}
-use Rattle.sender_state.specs.Steps.{candidateOf, leastOf, Tidy}
-use Rattle.sender_state.specs.Table.{◌!◌, placeOf}
+use Rattle.sender_state.specs.Steps.{candidate_of, least_of, Tidy}
+use Rattle.sender_state.specs.Table.{◌!◌, place_of}
 use Rattle.sender_state.specs.declared.Sender.{Sender}
-use Rattle.sender_state.proofs.Folds.{least_at, least-there, least-most}
-use Rattle.sender_state.proofs.Runs.{beyond, run-from, run_none, run-head}
+use Rattle.sender_state.proofs.Folds.{least_at, least_there, least_most}
+use Rattle.sender_state.proofs.Runs.{beyond, run_from, run_none, run-head}
 use Rattle.sender_state.proofs.Facts.{Ruled}
-use Rattle.sender_state.specs.Numbers.{run, markedWith}
+use Rattle.sender_state.specs.Numbers.{run, marked_with}
 
 -- where a number's place is inside, the number stands there; and no index below has it
-pub place_is : (l : List ℕ) (n : ℕ) → placeOf l n < length l → l ! placeOf l n ≡ n
+pub place_is : (l : List ℕ) (n : ℕ) → place_of l n < length l → l ! place_of l n ≡ n
 place_is [] n h = absurd (not-suc-le-zero h)
 place_is (x ∷ l) n h =
     case
     (λ (e : x ≡ n). rw (eq-eqb x n e) e)
-    (λ (o : x ≡ n → ⊥). let o' = ne_eqb x n o in let h' : suc (placeOf l n) < suc (length l) = rw o' at h in rw o' (place_is l n (le_of_suc-le-suc h')))
+    (λ (o : x ≡ n → ⊥). let o' = ne_eqb x n o in let h' : suc (place_of l n) < suc (length l) = rw o' at h in rw o' (place_is l n (le_of_suc-le-suc h')))
     (ℕ_discrete x n)
 
-pub place-first : (l : List ℕ) (n j : ℕ) → j < length l → l ! j ≡ n → placeOf l n ≤ j
-place-first [] n j h e = absurd (not-suc-le-zero h)
-place-first (x ∷ l) n zero h e = rw (eq-eqb x n e) (omega arith)
-place-first (x ∷ l) n (suc j) h e =
+pub place_first : (l : List ℕ) (n j : ℕ) → j < length l → l ! j ≡ n → place_of l n ≤ j
+place_first [] n j h e = absurd (not-suc-le-zero h)
+place_first (x ∷ l) n zero h e = rw (eq-eqb x n e) (omega arith)
+place_first (x ∷ l) n (suc j) h e =
     case
     (λ (q : x ≡ n). rw (eq-eqb x n q) (omega arith))
-    (λ (o : x ≡ n → ⊥). rw (ne_eqb x n o) (omega (arith, place-first l n j (le_of_suc-le-suc h) e)))
+    (λ (o : x ≡ n → ⊥). rw (ne_eqb x n o) (omega (arith, place_first l n j (le_of_suc-le-suc h) e)))
     (ℕ_discrete x n)
 
-pub place-most : (l : List ℕ) (n : ℕ) → placeOf l n ≤ length l
-place-most [] n = omega arith
-place-most (x ∷ l) n =
+pub place_most : (l : List ℕ) (n : ℕ) → place_of l n ≤ length l
+place_most [] n = omega arith
+place_most (x ∷ l) n =
     case
     (λ (q : x ≡ n). rw (eq-eqb x n q) (omega arith))
-    (λ (o : x ≡ n → ⊥). rw (ne_eqb x n o) (omega (arith, place-most l n)))
+    (λ (o : x ≡ n → ⊥). rw (ne_eqb x n o) (omega (arith, place_most l n)))
     (ℕ_discrete x n)
 
 -- what is left of a run, from the lowest of its numbers: nothing where that is 4,294,967,295
@@ -53,10 +53,10 @@ pub record Ahead (p : ℕ → Bool) (next low : ℕ) (l : List ℕ) : Type 0 whe
 
 module _ (numbers marks : List ℕ) (wanted next : ℕ) (tidy : Tidy numbers marks wanted next) where
   -- a number with the mark stands at its place
-  pub stored : (j : ℕ) → j < 192 → marks ! j ≡ wanted → placeOf numbers (numbers ! j) ≡ j
+  pub stored : (j : ℕ) → j < 192 → marks ! j ≡ wanted → place_of numbers (numbers ! j) ≡ j
   stored j h e =
-      let k = placeOf numbers (numbers ! j) in
-      let first = place-first numbers (numbers ! j) j (omega (arith, tidy.row)) refl in
+      let k = place_of numbers (numbers ! j) in
+      let first = place_first numbers (numbers ! j) j (omega (arith, tidy.row)) refl in
       let is = place_is numbers (numbers ! j) (omega (arith, tidy.row)) in
       case
       (λ (q : k ≡ j). q)
@@ -64,47 +64,47 @@ module _ (numbers marks : List ℕ) (wanted next : ℕ) (tidy : Tidy numbers mar
       (ℕ_discrete k j)
 
   abbrev bears : ℕ → Bool
-  bears n = markedWith wanted marks (placeOf numbers n)
+  bears n = marked_with wanted marks (place_of numbers n)
 
   -- a number with the mark lies at or above the lowest
-  pub found : (from n : ℕ) → from ≤ n → bears n ≡ true → leastOf numbers marks wanted from 192 ≤ n
+  pub found : (from n : ℕ) → from ≤ n → bears n ≡ true → least_of numbers marks wanted from 192 ≤ n
   found from n a t =
-      let e = eqb-true (marks ! placeOf numbers n) wanted t in
-      let inside : placeOf numbers n < 192 =
+      let e = eqb-true (marks ! place_of numbers n) wanted t in
+      let inside : place_of numbers n < 192 =
       case
-      (λ (q : placeOf numbers n < 192). q)
-      (λ (q : placeOf numbers n < 192 → ⊥). absurd (omega (arith, beyond marks (placeOf numbers n) 0 (omega (arith, tidy.table)), tidy.mark, e)))
-      (dec_lt (placeOf numbers n) 192) in
+      (λ (q : place_of numbers n < 192). q)
+      (λ (q : place_of numbers n < 192 → ⊥). absurd (omega (arith, beyond marks (place_of numbers n) 0 (omega (arith, tidy.table)), tidy.mark, e)))
+      (dec_lt (place_of numbers n) 192) in
       let is = place_is numbers n (omega (arith, tidy.row)) in
-      omega (arith, least_at numbers marks wanted from 192 (placeOf numbers n) inside e (omega (arith, is)), is)
+      omega (arith, least_at numbers marks wanted from 192 (place_of numbers n) inside e (omega (arith, is)), is)
 
-  unseen : (from n : ℕ) → from ≤ n → n < leastOf numbers marks wanted from 192 → bears n ≡ false
+  unseen : (from n : ℕ) → from ≤ n → n < least_of numbers marks wanted from 192 → bears n ≡ false
   unseen from n a b = go (bears n) refl where
     go : (t : Bool) → bears n ≡ t → bears n ≡ false
     go true e = absurd (omega (arith, found from n a e))
     go false e = e
 
-  pub ahead : (from : ℕ) → from ≤ next → Ahead (λ n. markedWith wanted marks (placeOf numbers n)) next (leastOf numbers marks wanted from 192) (run (λ n. markedWith wanted marks (placeOf numbers n)) from (next - from))
+  pub ahead : (from : ℕ) → from ≤ next → Ahead (λ n. marked_with wanted marks (place_of numbers n)) next (least_of numbers marks wanted from 192) (run (λ n. marked_with wanted marks (place_of numbers n)) from (next - from))
   ahead from a =
-      let low = leastOf numbers marks wanted from 192 in
+      let low = least_of numbers marks wanted from 192 in
       let there : low < 4294967295 → (low < next) × (bears low ≡ true) × (from ≤ low) =
       λ h.
-      let f = least-there numbers marks wanted from 192 h in
+      let f = least_there numbers marks wanted from 192 h in
       let e = stored f.place f.inside f.marked in
-      let g : placeOf numbers low ≡ f.place = ap (placeOf numbers) (sym f.is) ∙ e in
+      let g : place_of numbers low ≡ f.place = ap (place_of numbers) (sym f.is) ∙ e in
       (omega (arith, tidy.low f.place f.inside f.marked, f.is), rw g (eq-eqb _ _ f.marked), omega (arith, f.high, f.is)) in
       record {
-        most = least-most numbers marks wanted from 192;
+        most = least_most numbers marks wanted from 192;
         none = λ e. run_none bears from next (λ m x y. unseen from m x (omega (arith, tidy.width)));
-        more = λ h. run-from bears from low next (there h).2 (omega (arith, (there h).0)) (unseen from) ∙ run-head bears low next (there h).0 (there h).1;
+        more = λ h. run_from bears from low next (there h).2 (omega (arith, (there h).0)) (unseen from) ∙ run-head bears low next (there h).0 (there h).1;
         below = λ h. (there h).0;
         passes = λ h. (there h).1;
       }
 
 -- a search from a number on finds none below it
-candidate-low : (number mark wanted from : ℕ) → from ≤ 4294967295 → from ≤ candidateOf number mark wanted from
-unfolding candidateOf
-candidate-low number mark wanted from h =
+candidate_low : (number mark wanted from : ℕ) → from ≤ 4294967295 → from ≤ candidate_of number mark wanted from
+unfolding candidate_of
+candidate_low number mark wanted from h =
     case
     (λ (e : mark ≡ wanted).
     case
@@ -114,10 +114,10 @@ candidate-low number mark wanted from h =
     (λ (o : mark ≡ wanted → ⊥). rw (ne_eqb _ _ o) h)
     (ℕ_discrete mark wanted)
 
-pub least-low : (numbers marks : List ℕ) (wanted from n : ℕ) → from ≤ 4294967295 → from ≤ leastOf numbers marks wanted from n
-unfolding leastOf
-least-low numbers marks wanted from zero h = h
-least-low numbers marks wanted from (suc n) h = omega (arith, least-low numbers marks wanted from n h, candidate-low (numbers ! n) (marks ! n) wanted from h)
+pub least_low : (numbers marks : List ℕ) (wanted from n : ℕ) → from ≤ 4294967295 → from ≤ least_of numbers marks wanted from n
+unfolding least_of
+least_low numbers marks wanted from zero h = h
+least_low numbers marks wanted from (suc n) h = omega (arith, least_low numbers marks wanted from n h, candidate_low (numbers ! n) (marks ! n) wanted from h)
 
 -- a state that keeps the rules is tidy, for each mark that is not 0
 module _ (s : Sender) (row : length s.numbers ≡ 192) (table : length s.marks ≡ 192) (width : s.next.0 ≤ 4294967295) where

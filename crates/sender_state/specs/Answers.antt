@@ -13,6 +13,6 @@ pub record Outcome : Type 0 where
   pub lent : List ℕ
 
 -- submit, acks and resend give a count
-abbrev pub saidTally : Tally → Said
-saidTally (Y.Count n) = values (n ∷ [])
-saidTally (Y.Refused why) = refusal (number_of why)
+abbrev pub said_tally : Tally → Said
+said_tally (Y.Count n) = values (n ∷ [])
+said_tally (Y.Refused why) = refusal (number_of why)

@@ -23,8 +23,8 @@ abbrev pub place_in : Places → ℕ → Place
 place_in p i = record { number = record { 0 = p.numbers ! i }; size = p.lengths ! i; sent = p.sent ! i; resent = p.resent ! i; mark = p.marks ! i }
 
 -- every place free
-abbrev pub allFree : Places
-allFree = record { numbers = replicate 192 0; lengths = replicate 192 0; sent = replicate 192 0; resent = replicate 192 0; marks = replicate 192 0 }
+abbrev pub all_free : Places
+all_free = record { numbers = replicate 192 0; lengths = replicate 192 0; sent = replicate 192 0; resent = replicate 192 0; marks = replicate 192 0 }
 
 -- a packet so long waits in a free place, under a number
 abbrev pub joining : Places → ℕ → ℕ → ℕ → Places
@@ -84,5 +84,5 @@ state_of chunk count next window timing timer clock p = record {
 }
 
 -- the place of a state at an index
-abbrev pub placeAt : Sender → ℕ → Place
-placeAt s i = place_in (places_of s) i
+abbrev pub place_at : Sender → ℕ → Place
+place_at s i = place_in (places_of s) i

@@ -4,15 +4,15 @@ use Rattle.terms.specs.Ladder.{◌when◌else◌}
 use Rattle.sender_state.specs.Table.{◌!◌}
 
 -- the lowest number from `from` on whose mark is the wanted one, among the first n places; 4,294,967,295 where there is none
-unfoldable pub candidateOf : ℕ → ℕ → ℕ → ℕ → ℕ
-candidateOf number mark wanted from =
+unfoldable pub candidate_of : ℕ → ℕ → ℕ → ℕ → ℕ
+candidate_of number mark wanted from =
     4294967295 when not (eqb mark wanted) else
     4294967295 when ltb number from else
     number
 
-unfoldable pub leastOf : List ℕ → List ℕ → ℕ → ℕ → ℕ → ℕ
-leastOf numbers marks wanted from zero = 4294967295
-leastOf numbers marks wanted from (suc n) = min (leastOf numbers marks wanted from n) (candidateOf (numbers ! n) (marks ! n) wanted from)
+unfoldable pub least_of : List ℕ → List ℕ → ℕ → ℕ → ℕ → ℕ
+least_of numbers marks wanted from zero = 4294967295
+least_of numbers marks wanted from (suc n) = min (least_of numbers marks wanted from n) (candidate_of (numbers ! n) (marks ! n) wanted from)
 
 -- what a search by mark asks of the table: no number but 0 stands twice, none reaches next, and what bears the mark has a number
 pub record Tidy (numbers marks : List ℕ) (wanted next : ℕ) : Type 0 where

@@ -13,28 +13,28 @@ abbrev pub ◌unless◌ : Bool → Bool → Bool
 a unless b = b || a
 
 -- a place's mark: 0 free, 1 waiting, 2 in flight
-abbrev pub isFree : ℕ → Bool
-isFree mark = eqb mark 0
+abbrev pub is_free : ℕ → Bool
+is_free mark = eqb mark 0
 
-abbrev pub isWaiting : ℕ → Bool
-isWaiting mark = eqb mark 1
+abbrev pub is_waiting : ℕ → Bool
+is_waiting mark = eqb mark 1
 
-abbrev pub isFlying : ℕ → Bool
-isFlying mark = eqb mark 2
+abbrev pub is_flying : ℕ → Bool
+is_flying mark = eqb mark 2
 
 -- 1 where a test passes
-abbrev pub oneIf : Bool → ℕ
-oneIf test = 1 when test else 0
+abbrev pub one_if : Bool → ℕ
+one_if test = 1 when test else 0
 
 -- how many are equal to x
-abbrev pub countOf : ℕ → List ℕ → ℕ
-countOf x [] = 0
-countOf x (y ∷ l) = oneIf (eqb y x) + countOf x l
+abbrev pub count_of : ℕ → List ℕ → ℕ
+count_of x [] = 0
+count_of x (y ∷ l) = one_if (eqb y x) + count_of x l
 
 -- the place of a number: the first index at which it stands, and the list's length where it stands nowhere
-abbrev pub placeOf : List ℕ → ℕ → ℕ
-placeOf [] n = 0
-placeOf (x ∷ l) n = 0 when eqb x n else suc (placeOf l n)
+abbrev pub place_of : List ℕ → ℕ → ℕ
+place_of [] n = 0
+place_of (x ∷ l) n = 0 when eqb x n else suc (place_of l n)
 
 -- y is another than x
 abbrev pub differs : ℕ → ℕ → Bool

@@ -2,10 +2,10 @@
 // Ports what `Stream` keeps for sending. Its two `BTreeMap`s, of pending and of unacked packets, become one table.
 ghost use Rattle.std.specs.Prelude.{◌≡◌, min, eqb, length};
 ghost use Rattle.terms.specs.Lists.{all};
-ghost use Rattle.sender_state.specs.Table.{oneIf, countOf, placeOf, differs};
-ghost use Rattle.sender_state.specs.Steps.{candidateOf, leastOf};
-ghost use Rattle.sender_state.specs.Rules.{countsFit, sizesFit, clockWrong};
-ghost use Rattle.sender_state.specs.Start.{nothingStored, start_of, started};
+ghost use Rattle.sender_state.specs.Table.{one_if, count_of, place_of, differs};
+ghost use Rattle.sender_state.specs.Steps.{candidate_of, least_of};
+ghost use Rattle.sender_state.specs.Rules.{counts_fit, sizes_fit, clock_wrong};
+ghost use Rattle.sender_state.specs.Start.{nothing_stored, start_of, started};
 
 use terms::{Answer, Refusal, SeqNo};
 use timer::Timing;
@@ -82,14 +82,14 @@ pub fn absent(list: &[u32], x: u32) -> bool
 
 // 1 where the mark is the wanted one.
 fn one_if(mark: u32, wanted: u32) -> usize
-    ensures { result ≡ oneIf (eqb mark wanted) }
+    ensures { result ≡ one_if (eqb mark wanted) }
 {
     if mark == wanted { 1 } else { 0 }
 }
 
 // How many places bear the mark.
 pub fn count_of(marks: &[u32], wanted: u32) -> usize
-    ensures { result ≡ countOf wanted marks.now }
+    ensures { result ≡ count_of wanted marks.now }
 {
     let mut n: usize = 0;
     let mut i = 0;
@@ -102,7 +102,7 @@ pub fn count_of(marks: &[u32], wanted: u32) -> usize
 
 // A number that may be the lowest one sought, or else the largest there is.
 fn candidate(number: u32, mark: u32, wanted: u32, from: u32) -> u32
-    ensures { result ≡ candidateOf number mark wanted from }
+    ensures { result ≡ candidate_of number mark wanted from }
 {
     if mark != wanted {
         return 4294967295;
@@ -123,7 +123,7 @@ pub fn smaller(a: u32, b: u32) -> u32
 // The Rust's maps are ordered; here the order is found by asking for the lowest number above the last.
 pub fn least<'a>(numbers: &'a [u32], marks: &'a [u32], wanted: u32, from: u32) -> u32
     requires { (length numbers.now ≡ 192) × (length marks.now ≡ 192) }
-    ensures { result ≡ leastOf numbers.now marks.now wanted from 192 }
+    ensures { result ≡ least_of numbers.now marks.now wanted from 192 }
 {
     let mut low: u32 = 4294967295;
     let mut i = 0;
@@ -136,7 +136,7 @@ pub fn least<'a>(numbers: &'a [u32], marks: &'a [u32], wanted: u32, from: u32) -
 
 // The place of a number.
 pub fn place_of(numbers: &[u32], number: u32) -> usize
-    ensures { result ≡ placeOf numbers.now number }
+    ensures { result ≡ place_of numbers.now number }
 {
     let mut i = 0;
     while i < numbers.len() {
@@ -150,7 +150,7 @@ pub fn place_of(numbers: &[u32], number: u32) -> usize
 
 // Whether the chunk size is 1 to 1,812 and the slot count 1 to 192: the part of refusal 10 that needs no store.
 pub fn counts_fit(chunk: u32, count: u32) -> bool
-    ensures { result ≡ countsFit chunk count }
+    ensures { result ≡ counts_fit chunk count }
 {
     if chunk < 1 {
         return false;
@@ -166,7 +166,7 @@ pub fn counts_fit(chunk: u32, count: u32) -> bool
 
 // Whether the sizes are in range and the store has as many places of that size.
 pub fn sizes_fit(chunk: u32, count: u32, store_length: usize) -> bool
-    ensures { result ≡ sizesFit chunk count store_length }
+    ensures { result ≡ sizes_fit chunk count store_length }
 {
     if !counts_fit(chunk, count) {
         return false;
@@ -176,14 +176,14 @@ pub fn sizes_fit(chunk: u32, count: u32, store_length: usize) -> bool
 
 // Whether a clock is below the last accepted one, or above 10^15.
 pub fn clock_wrong(last: u64, clock: u64) -> bool
-    ensures { result ≡ clockWrong last clock }
+    ensures { result ≡ clock_wrong last clock }
 {
     (clock < last) | (clock > 1000000000000000)
 }
 
 // A state with nothing stored.
 fn empty(chunk: u32, count: u32, next: u32) -> Sender
-    ensures { result ≡ nothingStored chunk count next }
+    ensures { result ≡ nothing_stored chunk count next }
 {
     Sender {
         chunk: chunk,

@@ -1,11 +1,11 @@
 // Submitting bytes to a sender: they become packets that wait. Ports `packetize`: chunks of the state's chunk size, numbered in order,
 // each with the ack fields of the stream's receiving half.
 ghost use Rattle.std.specs.Prelude.{◌≡◌, true, ◌+◌, ◌≤◌, min, length};
-ghost use Rattle.receiver_state.specs.Rules.{rulesOf};
+ghost use Rattle.receiver_state.specs.Rules.{rules_of};
 ghost use Rattle.sender_state.specs.Numbers.{offset_of};
-ghost use Rattle.sender_submit.specs.Chunks.{dataPacket, laidAt, storedBy};
-ghost use Rattle.sender_submit.specs.Submit.{submitOf, submittedOut};
-ghost use Rattle.sender_submit.specs.Steps.{ackedPacket, Acking, Roomy};
+ghost use Rattle.sender_submit.specs.Chunks.{data_packet, laid_at, stored_by};
+ghost use Rattle.sender_submit.specs.Submit.{submit_of, submitted_out};
+ghost use Rattle.sender_submit.specs.Steps.{acked_packet, Acking, Roomy};
 
 use packet_write::{Fields, Writing};
 use receiver_ack::AckFields;
@@ -41,8 +41,8 @@ fn put_chunk(
     store: &mut [u8],
 ) -> u32
     requires { Acking acks nacks.now × (length payload.now ≤ chunk) × (chunk ≤ 1812) × (offset_of chunk at + (chunk + 1044) ≤ length store.old) }
-    ensures value { result ≡ length (ackedPacket acks nacks.now send recv number payload.now) }
-    ensures store_after { store.new ≡ laidAt chunk at (ackedPacket acks nacks.now send recv number payload.now) store.old }
+    ensures value { result ≡ length (acked_packet acks nacks.now send recv number payload.now) }
+    ensures store_after { store.new ≡ laid_at chunk at (acked_packet acks nacks.now send recv number payload.now) store.old }
 {
     let from = at * (chunk as usize + 1044);
     let seq = SeqNo(number);
@@ -76,7 +76,7 @@ fn store_all(
 ) -> Sender
     requires { Acking acks nacks.now × Roomy s packets (length store.old) }
     ensures { record { state = result; store = store.new }
-        ≡ storedBy (ackedPacket acks nacks.now send recv) packets bytes.now s store.old }
+        ≡ stored_by (acked_packet acks nacks.now send recv) packets bytes.now s store.old }
 {
     let chunk = s.chunk;
     let mut numbers = s.numbers;
@@ -137,9 +137,9 @@ fn submit_done(
     packets: u32,
     store: &mut [u8],
 ) -> Sender
-    requires { (rulesOf r ≡ true) × Roomy s packets (length store.old) }
+    requires { (rules_of r ≡ true) × Roomy s packets (length store.old) }
     ensures { record { state = result; store = store.new }
-        ≡ storedBy (dataPacket r send recv) packets bytes.now s store.old }
+        ≡ stored_by (data_packet r send recv) packets bytes.now s store.old }
 {
     let mut missing = [0u32; 512];
     let acks = receiver_ack::fields(r.head.next, r.head.highest, &r.marks, &mut missing);
@@ -167,7 +167,7 @@ pub fn submit(
     bytes: &[u8],
     store: &mut [u8],
 ) -> Submitted
-    ensures { submittedOut result store.new ≡ submitOf s r send recv bytes.now store.old }
+    ensures { submitted_out result store.new ≡ submit_of s r send recv bytes.now store.old }
 {
     let answer = sender_submit_answer::judge(s, r, bytes.len(), store.len());
     match answer {

@@ -1,9 +1,9 @@
 // What submit answers, before anything is written: it looks at both states and at two lengths. The packets are made in `sender_submit`.
 ghost use Rattle.std.specs.Prelude.{◌≡◌, ◌&&◌, ◌||◌, ◌≤◌, eqb, ltb};
-ghost use Rattle.receiver_state.specs.Rules.{rulesOf, slotFits};
-ghost use Rattle.sender_state.specs.Rules.{rules, sizesFit};
-ghost use Rattle.sender_state.specs.Answers.{saidTally};
-ghost use Rattle.sender_submit_answer.specs.Answer.{chunks_of, submitSaid};
+ghost use Rattle.receiver_state.specs.Rules.{rules_of, slot_fits};
+ghost use Rattle.sender_state.specs.Rules.{rules, sizes_fit};
+ghost use Rattle.sender_state.specs.Answers.{said_tally};
+ghost use Rattle.sender_submit_answer.specs.Answer.{chunks_of, submit_said};
 
 use receiver_state::Receiver;
 use sender_state::{Sender, Tally};
@@ -11,7 +11,7 @@ use terms::Refusal;
 
 // Whether both states keep their rules.
 fn both_keep(s: Sender, r: Receiver) -> bool
-    ensures { result ≡ (rules s && rulesOf r) }
+    ensures { result ≡ (rules s && rules_of r) }
 {
     if !sender_check::valid(s) {
         return false;
@@ -21,7 +21,7 @@ fn both_keep(s: Sender, r: Receiver) -> bool
 
 // Whether the sender's sizes fit with its store, and the receiver's slot size, whose store is not lent.
 fn both_fit(chunk: u32, count: u32, store_length: usize, slot: u32) -> bool
-    ensures { result ≡ (sizesFit chunk count store_length && slotFits slot) }
+    ensures { result ≡ (sizes_fit chunk count store_length && slot_fits slot) }
 {
     if !sender_state::sizes_fit(chunk, count, store_length) {
         return false;
@@ -46,7 +46,7 @@ fn chunk_count(chunk: u32, size: usize) -> usize
 
 // What submit answers: the first refusal that applies, in document 01's order, or how many packets it makes.
 pub fn judge(s: Sender, r: Receiver, size: usize, store_length: usize) -> Tally
-    ensures { saidTally result ≡ submitSaid s r size store_length }
+    ensures { said_tally result ≡ submit_said s r size store_length }
 {
     let chunk = s.chunk;
     let count = s.count;

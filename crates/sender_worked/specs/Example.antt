@@ -4,15 +4,15 @@ use Rattle.std.specs.Prelude.{ℕ, refl, List, [], ◌∷◌, ◌++◌, replicat
 use Rattle.terms.specs.declared.StreamId.{StreamId}
 use Rattle.terms.specs.Answers.{Said, values}
 use Rattle.receiver_state.specs.Start.{fresh}
-use Rattle.sender_state.specs.Rules.{sizesFit, countsFit}
-use Rattle.sender_state.specs.Start.{startSaid}
+use Rattle.sender_state.specs.Rules.{sizes_fit, counts_fit}
+use Rattle.sender_state.specs.Start.{start_said}
 use Rattle.sender_runs.specs.Runs.{Event, Run, submit, send, acks}
 
 abbrev id : StreamId
 id = record { 0 = 7 }
 
 abbrev pub example : Run
-unfolding sizesFit countsFit startSaid
+unfolding sizes_fit counts_fit start_said
 example = record {
   -- the first number 1, chunks of one byte, two places
   first = record { 0 = 1 };
@@ -33,18 +33,18 @@ pub record Heard : Type 0 where
   pub says : Said
   pub left : List ℕ
 
-abbrev pub heardIn : List Event → List Heard
-heardIn [] = []
-heardIn (e ∷ rest) = record { says = e.answered; left = e.output } ∷ heardIn rest
+abbrev pub heard_in : List Event → List Heard
+heard_in [] = []
+heard_in (e ∷ rest) = record { says = e.answered; left = e.output } ∷ heard_in rest
 
 -- the first packet: both ids, number 1, ack-through 0, no NACK, resend delay, flags and option length 0, and its byte
-abbrev pub firstPacket : List ℕ
-firstPacket = 0 ∷ 0 ∷ 0 ∷ 7 ∷ 0 ∷ 0 ∷ 0 ∷ 7 ∷ 0 ∷ 0 ∷ 0 ∷ 1 ∷ 0 ∷ 0 ∷ 0 ∷ 0 ∷ 0 ∷ 0 ∷ 0 ∷ 0 ∷ 0 ∷ 0 ∷ 65 ∷ []
+abbrev pub first_packet : List ℕ
+first_packet = 0 ∷ 0 ∷ 0 ∷ 7 ∷ 0 ∷ 0 ∷ 0 ∷ 7 ∷ 0 ∷ 0 ∷ 0 ∷ 1 ∷ 0 ∷ 0 ∷ 0 ∷ 0 ∷ 0 ∷ 0 ∷ 0 ∷ 0 ∷ 0 ∷ 0 ∷ 65 ∷ []
 
 -- two packets are made; number 1 leaves, with 23 bytes; one is acknowledged
 abbrev pub heard : List Heard
 heard =
     record { says = values (2 ∷ []); left = [] } ∷
-    record { says = values (1 ∷ 23 ∷ []); left = firstPacket ++ replicate 2 9 } ∷
+    record { says = values (1 ∷ 23 ∷ []); left = first_packet ++ replicate 2 9 } ∷
     record { says = values (1 ∷ []); left = [] } ∷
     []

@@ -6,27 +6,27 @@ use native.Mathlib.Omega.{arith}
 use borrow.Author.Tests.{eq-eqb, ne_eqb}
 use lib.ListN.{length, take, length-append}
 use lib.Seq.{append_snoc}
-use Rattle.portions.specs.Stops.{OneCall, usedBefore, untilGiven}
-use Rattle.serial_state.specs.Frames.{Coming, idle, within, stopped, readByte}
+use Rattle.portions.specs.Stops.{OneCall, used_before, until_given}
+use Rattle.serial_state.specs.Frames.{Coming, idle, within, stopped, read_byte}
 
-pub used-none : {State Given : Type 0} (reading : OneCall State Given) → usedBefore 0 reading ≡ reading
-used-none reading = let e : 0 + reading.used ≡ reading.used = omega arith in λ k. record { gave = reading.gave; used = e k; state = reading.state }
+pub used_none : {State Given : Type 0} (reading : OneCall State Given) → used_before 0 reading ≡ reading
+used_none reading = let e : 0 + reading.used ≡ reading.used = omega arith in λ k. record { gave = reading.gave; used = e k; state = reading.state }
 
-pub used-one : {State Given : Type 0} (reading : OneCall State Given) → usedBefore 1 reading ≡ record { gave = reading.gave; used = suc reading.used; state = reading.state }
+pub used-one : {State Given : Type 0} (reading : OneCall State Given) → used_before 1 reading ≡ record { gave = reading.gave; used = suc reading.used; state = reading.state }
 used-one reading = let e : 1 + reading.used ≡ suc reading.used = omega arith in λ k. record { gave = reading.gave; used = e k; state = reading.state }
 
-pub used-two : {State Given : Type 0} (reading : OneCall State Given) → usedBefore 2 reading ≡ record { gave = reading.gave; used = suc (suc reading.used); state = reading.state }
-used-two reading = let e : 2 + reading.used ≡ suc (suc reading.used) = omega arith in λ k. record { gave = reading.gave; used = e k; state = reading.state }
+pub used_two : {State Given : Type 0} (reading : OneCall State Given) → used_before 2 reading ≡ record { gave = reading.gave; used = suc (suc reading.used); state = reading.state }
+used_two reading = let e : 2 + reading.used ≡ suc (suc reading.used) = omega arith in λ k. record { gave = reading.gave; used = e k; state = reading.state }
 
 module _ (room : ℕ) where
   -- a reader that has stopped stays so
-  pub until-stopped : (bytes : List ℕ) → untilGiven (readByte room) stopped bytes ≡ record { gave = []; used = length bytes; state = stopped }
-  until-stopped [] = refl
-  until-stopped (b ∷ rest) = rw (until-stopped rest)
+  pub until_stopped : (bytes : List ℕ) → until_given (read_byte room) stopped bytes ≡ record { gave = []; used = length bytes; state = stopped }
+  until_stopped [] = refl
+  until_stopped (b ∷ rest) = rw (until_stopped rest)
 
   -- fewer bytes than a packet lacks
   pub within-short : (size : ℕ) (there bytes : List ℕ) → length there + length bytes < size
-      → untilGiven (readByte room) (within size there) bytes ≡ record { gave = []; used = length bytes; state = within size (there ++ bytes) }
+      → until_given (read_byte room) (within size there) bytes ≡ record { gave = []; used = length bytes; state = within size (there ++ bytes) }
   within-short size there [] h = rw (append-nil there)
   within-short size there (b ∷ bytes) h =
       let l = length-append there (b ∷ []) in
@@ -34,7 +34,7 @@ module _ (room : ℕ) where
 
   -- as many, and any others behind them
   pub within-full : (size : ℕ) (there bytes : List ℕ) (n : ℕ) → length there + n ≡ size → 0 < n → n ≤ length bytes
-      → untilGiven (readByte room) (within size there) bytes ≡ record { gave = (there ++ take n bytes) ∷ []; used = n; state = idle }
+      → until_given (read_byte room) (within size there) bytes ≡ record { gave = (there ++ take n bytes) ∷ []; used = n; state = idle }
   within-full size there bytes zero e low high = absurd (omega arith)
   within-full size there [] (suc n) e low high = absurd (omega arith)
   within-full size there (b ∷ rest) (suc zero) e low high = rw (eq-eqb (suc (length there)) size (omega arith))

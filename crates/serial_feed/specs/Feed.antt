@@ -2,21 +2,21 @@
 use Rattle.std.specs.Prelude.{ℕ, not, List, [], ◌∷◌, eqb, length}
 use Rattle.terms.specs.Refusals.{number_of}
 use Rattle.terms.specs.Ladder.{◌when◌else◌}
-use Rattle.terms.specs.Lists.{◌atFrontOf◌}
+use Rattle.terms.specs.Lists.{◌at_front_of◌}
 use Rattle.terms.specs.Answers.{Said, refusal, values}
-use Rattle.portions.specs.Stops.{OneCall, untilGiven}
-use Rattle.serial_state.specs.Frames.{Coming, stopped, isStopped, readByte}
-use Rattle.serial_state.specs.Rules.{comingOf, readerOf, thereIn, lineRules}
+use Rattle.portions.specs.Stops.{OneCall, until_given}
+use Rattle.serial_state.specs.Frames.{Coming, stopped, is_stopped, read_byte}
+use Rattle.serial_state.specs.Rules.{coming_of, reader_of, there_in, line_rules}
 use Rattle.serial_state.specs.declared.LineReader.{LineReader}
 use Rattle.serial_feed.specs.declared.Fed.{Fed}
 use Rattle.serial_feed.specs.declared.Heard.{Heard}
 use Rattle.serial_feed.specs.declared.Heard.TheVariants as H
 
 -- the number of a refusal; else the length of the packet at the buffer's front, or nothing where more is wanted
-abbrev pub heardSaid : Heard → Said
-heardSaid (H.Packet size) = values (size ∷ [])
-heardSaid H.More = values []
-heardSaid (H.Refused why) = refusal (number_of why)
+abbrev pub heard_said : Heard → Said
+heard_said (H.Packet size) = values (size ∷ [])
+heard_said H.More = values []
+heard_said (H.Refused why) = refusal (number_of why)
 
 pub record Feeds : Type 0 where
   pub says : Said
@@ -25,41 +25,41 @@ pub record Feeds : Type 0 where
   pub buffer : List ℕ
 
 -- a refused call uses nothing, and leaves the buffer
-abbrev pub turnedAway : ℕ → LineReader → List ℕ → Feeds
-turnedAway number r buffer = record { says = refusal number; used = 0; state = r; buffer = buffer }
+abbrev pub turned_away : ℕ → LineReader → List ℕ → Feeds
+turned_away number r buffer = record { says = refusal number; used = 0; state = r; buffer = buffer }
 
 -- what a call answers that gave out a packet, or none
-abbrev pub lengthIn : List (List ℕ) → List ℕ
-lengthIn (packet ∷ none) = length packet ∷ []
-lengthIn [] = []
+abbrev pub length_in : List (List ℕ) → List ℕ
+length_in (packet ∷ none) = length packet ∷ []
+length_in [] = []
 
 -- what it leaves at the buffer's front: the packet, or what is there of one
-abbrev pub frontIn : List (List ℕ) → Coming → List ℕ
-frontIn (packet ∷ none) coming = packet
-frontIn [] coming = thereIn coming
+abbrev pub front_in : List (List ℕ) → Coming → List ℕ
+front_in (packet ∷ none) coming = packet
+front_in [] coming = there_in coming
 
 -- A call that read up to the first full packet, or to the portion's end. A length that is refused stops the reader: no byte is used, and nothing is
 -- kept of that length.
-unfoldable pub heardBy : ℕ → List ℕ → OneCall Coming (List ℕ) → Feeds
-heardBy room buffer reading =
-    turnedAway 30 (readerOf room stopped) buffer when isStopped reading.state else
+unfoldable pub heard_by : ℕ → List ℕ → OneCall Coming (List ℕ) → Feeds
+heard_by room buffer reading =
+    turned_away 30 (reader_of room stopped) buffer when is_stopped reading.state else
     record {
-      says = values (lengthIn reading.gave);
+      says = values (length_in reading.gave);
       used = reading.used;
-      state = readerOf room reading.state;
-      buffer = frontIn reading.gave reading.state atFrontOf buffer;
+      state = reader_of room reading.state;
+      buffer = front_in reading.gave reading.state at_front_of buffer;
     }
 
 -- the whole outcome, the refusals in document 02's order
-unfoldable pub feedOf : LineReader → List ℕ → List ℕ → Feeds
-feedOf r portion buffer =
+unfoldable pub feed_of : LineReader → List ℕ → List ℕ → Feeds
+feed_of r portion buffer =
     -- a state that no start and calls could leave
-    turnedAway 11 r buffer when not (lineRules r) else
+    turned_away 11 r buffer when not (line_rules r) else
     -- a buffer of another length than at the start
-    turnedAway 10 r buffer when not (eqb (length buffer) r.room) else
+    turned_away 10 r buffer when not (eqb (length buffer) r.room) else
     -- and else what the bytes say, 30 among it
-    heardBy r.room buffer (untilGiven (readByte r.room) (comingOf r buffer) portion)
+    heard_by r.room buffer (until_given (read_byte r.room) (coming_of r buffer) portion)
 
 -- results of the code, as an outcome
 abbrev pub fed : Fed → List ℕ → Feeds
-fed f buffer = record { says = heardSaid f.answer; used = f.used; state = f.state; buffer = buffer }
+fed f buffer = record { says = heard_said f.answer; used = f.used; state = f.state; buffer = buffer }

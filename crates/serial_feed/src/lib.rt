@@ -1,10 +1,10 @@
 // Packets over a serial line: a reader is fed portions as the line gives them, keeps the unfinished packet in a buffer that the host lends, and answers each
 // full packet once.
 ghost use Rattle.std.specs.Prelude.{◌≡◌, true, ◌≤◌, ◌<◌, length, take, drop};
-ghost use Rattle.portions.specs.Stops.{untilGiven, usedBefore};
-ghost use Rattle.serial_state.specs.Frames.{Coming, within, afterLength, readByte};
-ghost use Rattle.serial_state.specs.Rules.{comingOf, lineRules};
-ghost use Rattle.serial_feed.specs.Feed.{heardBy, feedOf, fed};
+ghost use Rattle.portions.specs.Stops.{until_given, used_before};
+ghost use Rattle.serial_state.specs.Frames.{Coming, within, after_length, read_byte};
+ghost use Rattle.serial_state.specs.Rules.{coming_of, line_rules};
+ghost use Rattle.serial_feed.specs.Feed.{heard_by, feed_of, fed};
 
 use serial_state::LineReader;
 use terms::Refusal;
@@ -37,8 +37,8 @@ fn wide(x: u8) -> u32
 fn fill(room: usize, size: usize, there: usize, portion: &[u8], at: usize, buffer: &mut [u8]) -> Fed
     requires { (there < size) × (size ≤ length buffer.old) × (at ≤ length portion.now) }
     ensures { fed result buffer.new
-        ≡ heardBy room buffer.old
-        (usedBefore at (untilGiven (readByte room) (within size (take there buffer.old)) (drop at portion.now))) }
+        ≡ heard_by room buffer.old
+        (used_before at (until_given (read_byte room) (within size (take there buffer.old)) (drop at portion.now))) }
 {
     let lacks = size - there;
     let given = portion.len() - at;
@@ -75,7 +75,7 @@ fn fill(room: usize, size: usize, there: usize, portion: &[u8], at: usize, buffe
 fn measured(room: usize, size: usize, portion: &[u8], at: usize, buffer: &mut [u8]) -> Fed
     requires { (room ≡ length buffer.old) × (at ≤ length portion.now) }
     ensures { fed result buffer.new
-        ≡ heardBy room buffer.old (usedBefore at (untilGiven (readByte room) (afterLength room size) (drop at portion.now))) }
+        ≡ heard_by room buffer.old (used_before at (until_given (read_byte room) (after_length room size) (drop at portion.now))) }
 {
     if (size < 22) | (room < size) {
         return Fed {
@@ -95,9 +95,9 @@ fn measured(room: usize, size: usize, portion: &[u8], at: usize, buffer: &mut [u
 
 // What a reader that keeps its rules makes of a portion.
 fn hear(r: LineReader, portion: &[u8], buffer: &mut [u8]) -> Fed
-    requires { (lineRules r ≡ true) × (length buffer.old ≡ r.room) }
+    requires { (line_rules r ≡ true) × (length buffer.old ≡ r.room) }
     ensures { fed result buffer.new
-        ≡ heardBy r.room buffer.old (untilGiven (readByte r.room) (comingOf r buffer.old) portion.now) }
+        ≡ heard_by r.room buffer.old (until_given (read_byte r.room) (coming_of r buffer.old) portion.now) }
 {
     if r.phase == 3 {
         return Fed {
@@ -141,7 +141,7 @@ fn hear(r: LineReader, portion: &[u8], buffer: &mut [u8]) -> Fed
 // Feeds a reader a portion of any length, none too, with the buffer that it was started over. It stops at the first full packet, and the host offers again the
 // bytes that were not used.
 pub fn feed(r: LineReader, portion: &[u8], buffer: &mut [u8]) -> Fed
-    ensures { fed result buffer.new ≡ feedOf r portion.now buffer.old }
+    ensures { fed result buffer.new ≡ feed_of r portion.now buffer.old }
 {
     if !serial_state::keeps_rules(r) {
         return Fed {

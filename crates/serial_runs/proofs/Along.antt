@@ -13,12 +13,12 @@ use Rattle.terms.proofs.Laws.{and_left, and_right}
 use Rattle.wire.specs.BigEndian.{is_byte}
 use Rattle.portions.specs.Fold.{behind, read_all}
 use Rattle.portions.proofs.Folds.{behind-behind}
-use Rattle.portions.proofs.Stops.{in-line}
-use Rattle.serial_state.specs.Frames.{isStopped, readByte}
-use Rattle.serial_state.specs.Rules.{comingOf, lineRules}
+use Rattle.portions.proofs.Stops.{in_line}
+use Rattle.serial_state.specs.Frames.{is_stopped, read_byte}
+use Rattle.serial_state.specs.Rules.{coming_of, line_rules}
 use Rattle.serial_state.specs.declared.LineReader.{LineReader}
-use Rattle.serial_feed.specs.Feed.{Feeds, feedOf}
-use Rattle.serial_runs.specs.Offers.{Hearing, packetAt, isRefusal, hears, HostDone}
+use Rattle.serial_feed.specs.Feed.{Feeds, feed_of}
+use Rattle.serial_runs.specs.Offers.{Hearing, packet_at, is_refusal, hears, HostDone}
 use Rattle.serial_runs.proofs.Calls.{one_at_most, FeedLaw, feeds}
 
 bytes_take : (n : ℕ) (l : List ℕ) → all is_byte l ≡ true → all is_byte (take n l) ≡ true
@@ -32,73 +32,73 @@ bytes_drop (suc n) [] h = refl
 bytes_drop (suc n) (x ∷ l) h = bytes_drop n l (and_right (is_byte x) (all is_byte l) h)
 
 pub record HostLaw (r : LineReader) (buffer line : List ℕ) (heard : Hearing) : Type 0 where
-  pub is : read_all (readByte r.room) (comingOf r buffer) line
-      ≡ behind heard.packets (read_all (readByte r.room) (comingOf heard.state heard.buffer) heard.unused)
-  pub rules : lineRules heard.state ≡ true
+  pub is : read_all (read_byte r.room) (coming_of r buffer) line
+      ≡ behind heard.packets (read_all (read_byte r.room) (coming_of heard.state heard.buffer) heard.unused)
+  pub rules : line_rules heard.state ≡ true
   pub room : heard.state.room ≡ r.room
   pub sized : length heard.buffer ≡ length buffer
-  pub refusal : (isStopped (comingOf r buffer) || heard.refused) ≡ isStopped (comingOf heard.state heard.buffer)
+  pub refusal : (is_stopped (coming_of r buffer) || heard.refused) ≡ is_stopped (coming_of heard.state heard.buffer)
 
 -- refused at the first call or later, of a reader that may have stopped before
-or-in-turn : (before first later after : Bool) (mid : Bool) → (before ≡ true → first ≡ true) → first ≡ mid → (mid || later) ≡ after → (before || (first || later)) ≡ after
-or-in-turn true first later after mid f e g = (rw (sym e ∙ f refl) at g)
-or-in-turn false first later after mid f e g = rw e g
+or_in_turn : (before first later after : Bool) (mid : Bool) → (before ≡ true → first ≡ true) → first ≡ mid → (mid || later) ≡ after → (before || (first || later)) ≡ after
+or_in_turn true first later after mid f e g = (rw (sym e ∙ f refl) at g)
+or_in_turn false first later after mid f e g = rw e g
 
-pub heard : (r : LineReader) (buffer line sizes : List ℕ) → lineRules r ≡ true → length buffer ≡ r.room → all is_byte line ≡ true
+pub heard : (r : LineReader) (buffer line sizes : List ℕ) → line_rules r ≡ true → length buffer ≡ r.room → all is_byte line ≡ true
     → HostLaw r buffer line (hears r buffer line sizes)
-heard r buffer line [] h own w = record { is = refl; rules = h; room = refl; sized = refl; refusal = or-false (isStopped (comingOf r buffer)) }
+heard r buffer line [] h own w = record { is = refl; rules = h; room = refl; sized = refl; refusal = or_false (is_stopped (coming_of r buffer)) }
   where
-    or-false : (b : Bool) → (b || false) ≡ b
-    or-false true = refl
-    or-false false = refl
+    or_false : (b : Bool) → (b || false) ≡ b
+    or_false true = refl
+    or_false false = refl
 heard r buffer line (size ∷ sizes) h own w =
-    let call = feedOf r (take size line) buffer in
+    let call = feed_of r (take size line) buffer in
     let d = feeds r (take size line) buffer h (bytes_take size line w) own in
     let then = hears call.state call.buffer (drop call.used line) sizes in
     let a = heard call.state call.buffer (drop call.used line) sizes d.rules (d.sized ∙ own ∙ sym d.room) (bytes_drop call.used line w) in
-    let later : read_all (readByte r.room) (comingOf call.state call.buffer) (drop call.used line)
-    ≡ behind then.packets (read_all (readByte r.room) (comingOf then.state then.buffer) then.unused) = rw d.room at a.is in
-    let law = in-line (readByte r.room) (one_at_most r.room) (comingOf r buffer) (take size line) (drop size line) (packetAt call.says call.buffer) call.used
-    (comingOf call.state call.buffer) d.is d.in-portion in
+    let later : read_all (read_byte r.room) (coming_of call.state call.buffer) (drop call.used line)
+    ≡ behind then.packets (read_all (read_byte r.room) (coming_of then.state then.buffer) then.unused) = rw d.room at a.is in
+    let law = in_line (read_byte r.room) (one_at_most r.room) (coming_of r buffer) (take size line) (drop size line) (packet_at call.says call.buffer) call.used
+    (coming_of call.state call.buffer) d.is d.in_portion in
     record {
       is = (rw (take-append-drop size line) at law)
-          ∙ ap (behind (packetAt call.says call.buffer)) later
-          ∙ behind-behind (packetAt call.says call.buffer) then.packets (read_all (readByte r.room) (comingOf then.state then.buffer) then.unused);
+          ∙ ap (behind (packet_at call.says call.buffer)) later
+          ∙ behind-behind (packet_at call.says call.buffer) then.packets (read_all (read_byte r.room) (coming_of then.state then.buffer) then.unused);
       rules = a.rules;
       room = a.room ∙ d.room;
       sized = a.sized ∙ d.sized;
-      refusal = or-in-turn (isStopped (comingOf r buffer)) (isRefusal call.says) then.refused _ (isStopped (comingOf call.state call.buffer)) d.for-good d.refusal_is a.refusal;
+      refusal = or_in_turn (is_stopped (coming_of r buffer)) (is_refusal call.says) then.refused _ (is_stopped (coming_of call.state call.buffer)) d.for_good d.refusal_is a.refusal;
     }
 
-drop-none : (n : ℕ) → ◌≡◌ {A = List ℕ} (drop n []) []
-drop-none zero = refl
-drop-none (suc n) = refl
+drop_none : (n : ℕ) → ◌≡◌ {A = List ℕ} (drop n []) []
+drop_none zero = refl
+drop_none (suc n) = refl
 
 -- of a line of nothing, nothing is left
 none_left : (r : LineReader) (buffer sizes : List ℕ) → (hears r buffer [] sizes).unused ≡ []
 none_left r buffer [] = refl
 none_left r buffer (size ∷ sizes) =
-    let call = feedOf r (take size []) buffer in
-    ap (λ (l : List ℕ). (hears call.state call.buffer l sizes).unused) (drop-none call.used) ∙ none_left call.state call.buffer sizes
+    let call = feed_of r (take size []) buffer in
+    ap (λ (l : List ℕ). (hears call.state call.buffer l sizes).unused) (drop_none call.used) ∙ none_left call.state call.buffer sizes
 
 -- a host that offers some byte at each call is done after as many calls as there are bytes
-pub gets-done : (r : LineReader) (buffer line sizes : List ℕ) → lineRules r ≡ true → length buffer ≡ r.room → all is_byte line ≡ true
+pub gets_done : (r : LineReader) (buffer line sizes : List ℕ) → line_rules r ≡ true → length buffer ≡ r.room → all is_byte line ≡ true
     → all (leb 1) sizes ≡ true → length line < length sizes → HostDone (hears r buffer line sizes)
-gets-done r buffer line [] h own w some short = absurd (omega arith)
-gets-done r buffer [] (size ∷ sizes) h own w some short = inl (none_left r buffer (size ∷ sizes))
-gets-done r buffer (b ∷ rest) (size ∷ sizes) h own w some short =
+gets_done r buffer line [] h own w some short = absurd (omega arith)
+gets_done r buffer [] (size ∷ sizes) h own w some short = inl (none_left r buffer (size ∷ sizes))
+gets_done r buffer (b ∷ rest) (size ∷ sizes) h own w some short =
     let line = b ∷ rest in
-    let call = feedOf r (take size line) buffer in
+    let call = feed_of r (take size line) buffer in
     let d = feeds r (take size line) buffer h (bytes_take size line w) own in
-    go (isRefusal call.says) refl d
-    (gets-done call.state call.buffer (drop call.used line) sizes d.rules (d.sized ∙ own ∙ sym d.room) (bytes_drop call.used line w) (and_right (leb 1 size) (all (leb 1) sizes) some))
+    go (is_refusal call.says) refl d
+    (gets_done call.state call.buffer (drop call.used line) sizes d.rules (d.sized ∙ own ∙ sym d.room) (bytes_drop call.used line w) (and_right (leb 1 size) (all (leb 1) sizes) some))
   where
-    go : (t : Bool) → isRefusal (feedOf r (take size (b ∷ rest)) buffer).says ≡ t → FeedLaw r (take size (b ∷ rest)) buffer (feedOf r (take size (b ∷ rest)) buffer)
-        → (length (drop (feedOf r (take size (b ∷ rest)) buffer).used (b ∷ rest)) < length sizes
-        → HostDone (hears (feedOf r (take size (b ∷ rest)) buffer).state (feedOf r (take size (b ∷ rest)) buffer).buffer (drop (feedOf r (take size (b ∷ rest)) buffer).used (b ∷ rest)) sizes))
+    go : (t : Bool) → is_refusal (feed_of r (take size (b ∷ rest)) buffer).says ≡ t → FeedLaw r (take size (b ∷ rest)) buffer (feed_of r (take size (b ∷ rest)) buffer)
+        → (length (drop (feed_of r (take size (b ∷ rest)) buffer).used (b ∷ rest)) < length sizes
+        → HostDone (hears (feed_of r (take size (b ∷ rest)) buffer).state (feed_of r (take size (b ∷ rest)) buffer).buffer (drop (feed_of r (take size (b ∷ rest)) buffer).used (b ∷ rest)) sizes))
         → HostDone (hears r buffer (b ∷ rest) (size ∷ sizes))
     go true e d again = inr (rw e)
     go false e d again =
         let one = leb-true 1 size (and_left (leb 1 size) (all (leb 1) sizes) some) in
         let used = d.goes_on (rw (length-take size (b ∷ rest)) (omega arith)) e in
-        ⊎_elim (λ l. inl l) (λ t. inr (rw e t)) (again (rw (length-drop (feedOf r (take size (b ∷ rest)) buffer).used (b ∷ rest)) (omega arith)))
+        ⊎_elim (λ l. inl l) (λ t. inr (rw e t)) (again (rw (length-drop (feed_of r (take size (b ∷ rest)) buffer).used (b ∷ rest)) (omega arith)))

@@ -4,12 +4,12 @@ use mathlib.Core.Path.{◌≡◌}
 use mathlib.Core.Bool.{Bool}
 use mathlib.Core.List.{List}
 use Rattle.terms.proofs.Determined.{determined}
-use Rattle.serial_state.specs.Rules.{lineRules}
-use Rattle.serial_state.specs.Start.{lineStart}
+use Rattle.serial_state.specs.Rules.{line_rules}
+use Rattle.serial_state.specs.Start.{line_start}
 use Rattle.serial_state.specs.declared.LineReader.{LineReader}
 
-pub start-determined : (buffer : List ℕ) (a b : LineReader) → a ≡ lineStart buffer → b ≡ lineStart buffer → a ≡ b
-start-determined buffer a b p q = determined p q
+pub start_determined : (buffer : List ℕ) (a b : LineReader) → a ≡ line_start buffer → b ≡ line_start buffer → a ≡ b
+start_determined buffer a b p q = determined p q
 
-pub keeps-rules-determined : (r : LineReader) (a b : Bool) → a ≡ lineRules r → b ≡ lineRules r → a ≡ b
-keeps-rules-determined r a b p q = determined p q
+pub keeps_rules_determined : (r : LineReader) (a b : Bool) → a ≡ line_rules r → b ≡ line_rules r → a ≡ b
+keeps_rules_determined r a b p q = determined p q

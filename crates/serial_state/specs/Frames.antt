@@ -14,34 +14,34 @@ pub data Coming : Type 0 where
   -- a length was refused: nothing is read any more
   stopped : Coming
 
-abbrev pub isStopped : Coming → Bool
-isStopped idle = false
-isStopped (half high) = false
-isStopped (within size there) = false
-isStopped stopped = true
+abbrev pub is_stopped : Coming → Bool
+is_stopped idle = false
+is_stopped (half high) = false
+is_stopped (within size there) = false
+is_stopped stopped = true
 
 -- a length under 22, or above the lent buffer
-abbrev pub isUnfit : ℕ → ℕ → Bool
-isUnfit room size = ltb size 22 || ltb room size
+abbrev pub is_unfit : ℕ → ℕ → Bool
+is_unfit room size = ltb size 22 || ltb room size
 
 -- once a length is there
-abbrev pub afterLength : ℕ → ℕ → Coming
-afterLength room size =
-    stopped when isUnfit room size else
+abbrev pub after_length : ℕ → ℕ → Coming
+after_length room size =
+    stopped when is_unfit room size else
     within size []
 
 -- one byte, for a buffer of this length
-abbrev pub readByte : ℕ → Coming → ℕ → Left Coming (List ℕ)
-readByte room idle byte = quiet (half byte)
-readByte room (half high) byte = quiet (afterLength room (high * 256 + byte))
-readByte room (within size there) byte =
+abbrev pub read_byte : ℕ → Coming → ℕ → Left Coming (List ℕ)
+read_byte room idle byte = quiet (half byte)
+read_byte room (half high) byte = quiet (after_length room (high * 256 + byte))
+read_byte room (within size there) byte =
     record { state = idle; gave = (there ++ (byte ∷ [])) ∷ [] } when eqb (suc (length there)) size else
     quiet (within size (there ++ (byte ∷ [])))
-readByte room stopped byte = quiet stopped
+read_byte room stopped byte = quiet stopped
 
 -- The packets in a string of bytes, and what a reader knows at its end: whether a length was refused, too.
-abbrev pub framesOf : ℕ → List ℕ → Left Coming (List ℕ)
-framesOf room bytes = read_all (readByte room) idle bytes
+abbrev pub frames_of : ℕ → List ℕ → Left Coming (List ℕ)
+frames_of room bytes = read_all (read_byte room) idle bytes
 
 -- an honest line: each packet behind its length
 abbrev pub framed : List ℕ → List ℕ
@@ -52,9 +52,9 @@ line_of [] = []
 line_of (packet ∷ rest) = framed packet ++ line_of rest
 
 -- and packets of 22 bytes up to the buffer's length, which is more than two bytes can say where it is large
-abbrev pub fitsLine : ℕ → List ℕ → Bool
-fitsLine room packet = leb 22 (length packet) and leb (length packet) room and leb (length packet) 65535
+abbrev pub fits_line : ℕ → List ℕ → Bool
+fits_line room packet = leb 22 (length packet) and leb (length packet) room and leb (length packet) 65535
 
-abbrev pub allFitLine : ℕ → List (List ℕ) → Bool
-allFitLine room [] = true
-allFitLine room (packet ∷ rest) = fitsLine room packet and allFitLine room rest
+abbrev pub all_fit_line : ℕ → List (List ℕ) → Bool
+all_fit_line room [] = true
+all_fit_line room (packet ∷ rest) = fits_line room packet and all_fit_line room rest

@@ -1,8 +1,8 @@
 // A reader of packets on a serial line, each behind its length: its state, the rules behind refusal 11, and start. Older gateways hand packets over such a
 // line; the Rust has nothing of it.
 ghost use Rattle.std.specs.Prelude.{◌≡◌, length};
-ghost use Rattle.serial_state.specs.Rules.{lineRules};
-ghost use Rattle.serial_state.specs.Start.{lineStart};
+ghost use Rattle.serial_state.specs.Rules.{line_rules};
+ghost use Rattle.serial_state.specs.Start.{line_start};
 
 // The state. The bytes that are there of an unfinished packet stand at the front of a buffer that the host lends. A number without a meaning in its phase is 0.
 #[repr(C)]
@@ -22,7 +22,7 @@ pub struct LineReader {
 
 // Starts a reader over a buffer of any length, whatever is in it.
 pub fn start(buffer: &[u8]) -> LineReader
-    ensures { result ≡ lineStart buffer.now }
+    ensures { result ≡ line_start buffer.now }
 {
     LineReader {
         room: buffer.len(),
@@ -35,7 +35,7 @@ pub fn start(buffer: &[u8]) -> LineReader
 
 // Whether a reader keeps its rules: what every call asks first.
 pub fn keeps_rules(r: LineReader) -> bool
-    ensures { result ≡ lineRules r }
+    ensures { result ≡ line_rules r }
 {
     if r.phase == 0 {
         return (r.high == 0) & ((r.size == 0) & (r.there == 0));

@@ -9,90 +9,90 @@ use borrow.Author.Tests.{lt-ltb, ltb-true}
 use lib.Dec.{ltb}
 use Rattle.terms.proofs.Laws.{and_left, and_right, and_both}
 use Rattle.receiver_runs.specs.Runs as R
-use Rattle.receiver_runs.specs.History.{acceptedIn}
-use Rattle.receiver_runs.proofs.More.{events-more, widths-more, accepted-more}
+use Rattle.receiver_runs.specs.History.{accepted_in}
+use Rattle.receiver_runs.proofs.More.{events_more, widths_more, accepted_more}
 use Rattle.sender_runs.specs.Runs as S
-use Rattle.sender_runs.specs.Remembers.{madeBy, madeIn, named_in, made}
+use Rattle.sender_runs.specs.Remembers.{made_by, made_in, named_in, made}
 use Rattle.sender_runs.proofs.More as Sends
-use Rattle.stream_joined.specs.Moves.{Ends, Move, atSender, atReceiver, Moves, nothing, ◌then◌, senderCalls, receiverCalls, senderEnd, receiverEnd, senderHistory, receiverHistory, moveInWidth, movesInWidth}
+use Rattle.stream_joined.specs.Moves.{Ends, Move, at_sender, at_receiver, Moves, nothing, ◌then◌, sender_calls, receiver_calls, sender_end, receiver_end, sender_history, receiver_history, move_in_width, moves_in_width}
 use Rattle.stream_joined.specs.Wire.{Joined}
-use Rattle.stream_joined.specs.Forgotten.{chunkBy, chunkIn, submittedAt}
+use Rattle.stream_joined.specs.Forgotten.{chunk_by, chunk_in, submitted_at}
 
 -- the sender's half
-abbrev pub senderRun : Ends → Moves → S.Run
-senderRun ends moves = record {
+abbrev pub sender_run : Ends → Moves → S.Run
+sender_run ends moves = record {
   first = ends.first;
   chunk = ends.chunk;
   count = ends.count;
-  store = ends.sendStore;
+  store = ends.send_store;
   started = ends.sender-started;
   width = ends.first_width;
-  calls = senderCalls moves;
+  calls = sender_calls moves;
 }
 
-pub calls-fit : (moves : Moves) → movesInWidth moves ≡ true → R.allInWidth (receiverCalls moves) ≡ true
-calls-fit nothing w = refl
-calls-fit (earlier then atSender call) w = calls-fit earlier (and_left (movesInWidth earlier) (moveInWidth (atSender call)) w)
-calls-fit (earlier then atReceiver call) w =
-    widths-more call (receiverCalls earlier) (calls-fit earlier (and_left (movesInWidth earlier) (R.inWidth call) w)) (and_right (movesInWidth earlier) (R.inWidth call) w)
+pub calls_fit : (moves : Moves) → moves_in_width moves ≡ true → R.all_in_width (receiver_calls moves) ≡ true
+calls_fit nothing w = refl
+calls_fit (earlier then at_sender call) w = calls_fit earlier (and_left (moves_in_width earlier) (move_in_width (at_sender call)) w)
+calls_fit (earlier then at_receiver call) w =
+    widths_more call (receiver_calls earlier) (calls_fit earlier (and_left (moves_in_width earlier) (R.in_width call) w)) (and_right (moves_in_width earlier) (R.in_width call) w)
 
 -- and the receiver's
-abbrev pub receiverRun : (ends : Ends) (moves : Moves) → movesInWidth moves ≡ true → R.Run
-receiverRun ends moves wide = record {
+abbrev pub receiver_run : (ends : Ends) (moves : Moves) → moves_in_width moves ≡ true → R.Run
+receiver_run ends moves wide = record {
   s = ends.s;
   slot = ends.slot;
-  store = ends.recvStore;
+  store = ends.recv_store;
   started = ends.receiver-started;
-  calls = receiverCalls moves;
-  widths = and_both (ltb ends.s.0 (2 ^ 32)) (R.allInWidth (receiverCalls moves))
-      (lt-ltb ends.s.0 (2 ^ 32) (omega (arith, ends.one_less, ltb-true ends.first.0 (2 ^ 32) ends.first_width))) (calls-fit moves wide);
+  calls = receiver_calls moves;
+  widths = and_both (ltb ends.s.0 (2 ^ 32)) (R.all_in_width (receiver_calls moves))
+      (lt-ltb ends.s.0 (2 ^ 32) (omega (arith, ends.one_less, ltb-true ends.first.0 (2 ^ 32) ends.first_width))) (calls_fit moves wide);
 }
 
 -- the beginning of a joined run is a joined run
-pub earlier-joined : (ends : Ends) (earlier : Moves) (move : Move) → Joined ends (earlier then move) → Joined ends earlier
-earlier-joined ends earlier move j = record { truly = j.truly.0; widths = and_left (movesInWidth earlier) (moveInWidth move) j.widths }
+pub earlier_joined : (ends : Ends) (earlier : Moves) (move : Move) → Joined ends (earlier then move) → Joined ends earlier
+earlier_joined ends earlier move j = record { truly = j.truly.0; widths = and_left (moves_in_width earlier) (move_in_width move) j.widths }
 
 -- ONE CALL MORE AT THE SENDER
 
-chunk-more : (chunk n : ℕ) (h rest : List S.Event) → chunkIn chunk n (h ++ rest) ≡ or_else (chunkIn chunk n h) (chunkIn chunk n rest)
+chunk_more : (chunk n : ℕ) (h rest : List S.Event) → chunk_in chunk n (h ++ rest) ≡ or_else (chunk_in chunk n h) (chunk_in chunk n rest)
 unfolding or_else
-chunk-more chunk n [] rest = refl
-chunk-more chunk n (e ∷ h) rest =
-    rw (chunk-more chunk n h rest) (Sends.or-else-assoc (chunkBy chunk n e.asked e.next e.answered) (chunkIn chunk n h) (chunkIn chunk n rest))
+chunk_more chunk n [] rest = refl
+chunk_more chunk n (e ∷ h) rest =
+    rw (chunk_more chunk n h rest) (Sends.or_else_assoc (chunk_by chunk n e.asked e.next e.answered) (chunk_in chunk n h) (chunk_in chunk n rest))
 
 module _ (ends : Ends) (earlier : Moves) (call : S.Call) where
-  abbrev pub sentEvent : S.Event
-  sentEvent = (S.step_of (senderEnd ends earlier) call).event
+  abbrev pub sent_event : S.Event
+  sent_event = (S.step_of (sender_end ends earlier) call).event
 
-  pub sent-more : senderHistory ends (earlier then atSender call) ≡ senderHistory ends earlier ++ (sentEvent ∷ [])
-  sent-more = Sends.events-more call (S.begun ends.first ends.chunk ends.count ends.sendStore) (senderCalls earlier)
+  pub sent_more : sender_history ends (earlier then at_sender call) ≡ sender_history ends earlier ++ (sent_event ∷ [])
+  sent_more = Sends.events_more call (S.begun ends.first ends.chunk ends.count ends.send_store) (sender_calls earlier)
 
-  pub sender-more : senderEnd ends (earlier then atSender call) ≡ (S.step_of (senderEnd ends earlier) call).kept
-  sender-more = Sends.kept_more call (S.begun ends.first ends.chunk ends.count ends.sendStore) (senderCalls earlier)
+  pub sender_more : sender_end ends (earlier then at_sender call) ≡ (S.step_of (sender_end ends earlier) call).kept
+  sender_more = Sends.kept_more call (S.begun ends.first ends.chunk ends.count ends.send_store) (sender_calls earlier)
 
-  pub made-on : (n : ℕ) → made (senderRun ends (earlier then atSender call)) n
-      ≡ or_else (made (senderRun ends earlier) n) (madeBy ends.chunk n sentEvent.asked sentEvent.next sentEvent.answered)
-  made-on n =
-      ap (madeIn ends.chunk n) sent-more ∙ Sends.made_more ends.chunk n (senderHistory ends earlier) (sentEvent ∷ [])
-      ∙ ap (or_else (made (senderRun ends earlier) n)) (Sends.or_else_none (madeBy ends.chunk n sentEvent.asked sentEvent.next sentEvent.answered))
+  pub made_on : (n : ℕ) → made (sender_run ends (earlier then at_sender call)) n
+      ≡ or_else (made (sender_run ends earlier) n) (made_by ends.chunk n sent_event.asked sent_event.next sent_event.answered)
+  made_on n =
+      ap (made_in ends.chunk n) sent_more ∙ Sends.made_more ends.chunk n (sender_history ends earlier) (sent_event ∷ [])
+      ∙ ap (or_else (made (sender_run ends earlier) n)) (Sends.or_else_none (made_by ends.chunk n sent_event.asked sent_event.next sent_event.answered))
 
-  pub submitted-on : (n : ℕ) → submittedAt ends (earlier then atSender call) n
-      ≡ or_else (submittedAt ends earlier n) (chunkBy ends.chunk n sentEvent.asked sentEvent.next sentEvent.answered)
-  submitted-on n =
-      ap (chunkIn ends.chunk n) sent-more ∙ chunk-more ends.chunk n (senderHistory ends earlier) (sentEvent ∷ [])
-      ∙ ap (or_else (submittedAt ends earlier n)) (Sends.or_else_none (chunkBy ends.chunk n sentEvent.asked sentEvent.next sentEvent.answered))
+  pub submitted_on : (n : ℕ) → submitted_at ends (earlier then at_sender call) n
+      ≡ or_else (submitted_at ends earlier n) (chunk_by ends.chunk n sent_event.asked sent_event.next sent_event.answered)
+  submitted_on n =
+      ap (chunk_in ends.chunk n) sent_more ∙ chunk_more ends.chunk n (sender_history ends earlier) (sent_event ∷ [])
+      ∙ ap (or_else (submitted_at ends earlier n)) (Sends.or_else_none (chunk_by ends.chunk n sent_event.asked sent_event.next sent_event.answered))
 
-  pub named-on : (n : ℕ) → named_in n (senderHistory ends (earlier then atSender call)) ≡ (named_in n (senderHistory ends earlier) || named_in n (sentEvent ∷ []))
-  named-on n = ap (named_in n) sent-more ∙ Sends.named_more n (senderHistory ends earlier) (sentEvent ∷ [])
+  pub named_on : (n : ℕ) → named_in n (sender_history ends (earlier then at_sender call)) ≡ (named_in n (sender_history ends earlier) || named_in n (sent_event ∷ []))
+  named_on n = ap (named_in n) sent_more ∙ Sends.named_more n (sender_history ends earlier) (sent_event ∷ [])
 
 -- ONE CALL MORE AT THE RECEIVER
 
 module _ (ends : Ends) (earlier : Moves) (call : R.Call) where
-  abbrev pub gotEvent : R.Event
-  gotEvent = (R.step_of (receiverEnd ends earlier) call).event
+  abbrev pub got_event : R.Event
+  got_event = (R.step_of (receiver_end ends earlier) call).event
 
-  pub got-more : receiverHistory ends (earlier then atReceiver call) ≡ receiverHistory ends earlier ++ (gotEvent ∷ [])
-  got-more = events-more call (R.begun ends.s ends.slot ends.recvStore) (receiverCalls earlier)
+  pub got_more : receiver_history ends (earlier then at_receiver call) ≡ receiver_history ends earlier ++ (got_event ∷ [])
+  got_more = events_more call (R.begun ends.s ends.slot ends.recv_store) (receiver_calls earlier)
 
-  pub accepted-on : acceptedIn (receiverHistory ends (earlier then atReceiver call)) ≡ acceptedIn (receiverHistory ends earlier) ++ acceptedIn (gotEvent ∷ [])
-  accepted-on = ap acceptedIn got-more ∙ accepted-more (receiverHistory ends earlier) (gotEvent ∷ [])
+  pub accepted_on : accepted_in (receiver_history ends (earlier then at_receiver call)) ≡ accepted_in (receiver_history ends earlier) ++ accepted_in (got_event ∷ [])
+  accepted_on = ap accepted_in got_more ∙ accepted_more (receiver_history ends earlier) (got_event ∷ [])

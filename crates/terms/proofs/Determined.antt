@@ -15,8 +15,8 @@ use Rattle.terms.specs.declared.Given.TheVariants as G
 pub determined : {A : Type 0} {promised a b : A} → a ≡ promised → b ≡ promised → a ≡ b
 determined p q = p ∙ sym q
 
-pub number-determined : (r : Refusal) (a b : ℕ) → a ≡ number_of r → b ≡ number_of r → a ≡ b
-number-determined r a b p q = determined p q
+pub number_determined : (r : Refusal) (a b : ℕ) → a ≡ number_of r → b ≡ number_of r → a ≡ b
+number_determined r a b p q = determined p q
 
 -- document 01's number and values leave one answer
 pub said-one : (a b : Answer) → said a ≡ said b → a ≡ b
@@ -25,8 +25,8 @@ said-one A.Done (A.Refused y) e = let z : ◌≡◌ {A = ℕ} 0 1 = cc in absurd
 said-one (A.Refused x) A.Done e = let z : ◌≡◌ {A = ℕ} 0 1 = cc in absurd (omega arith)
 said-one (A.Refused x) (A.Refused y) e = ap A.Refused (number-one x y (cc))
 
-pub said-of-one : (a b : Given) → said_of a ≡ said_of b → a ≡ b
-said-of-one (G.Bytes m) (G.Bytes n) e = ap G.Bytes (cc)
-said-of-one (G.Bytes m) (G.Refused y) e = let z : ◌≡◌ {A = ℕ} 0 1 = cc in absurd (omega arith)
-said-of-one (G.Refused x) (G.Bytes n) e = let z : ◌≡◌ {A = ℕ} 0 1 = cc in absurd (omega arith)
-said-of-one (G.Refused x) (G.Refused y) e = ap G.Refused (number-one x y (cc))
+pub said_of_one : (a b : Given) → said_of a ≡ said_of b → a ≡ b
+said_of_one (G.Bytes m) (G.Bytes n) e = ap G.Bytes (cc)
+said_of_one (G.Bytes m) (G.Refused y) e = let z : ◌≡◌ {A = ℕ} 0 1 = cc in absurd (omega arith)
+said_of_one (G.Refused x) (G.Bytes n) e = let z : ◌≡◌ {A = ℕ} 0 1 = cc in absurd (omega arith)
+said_of_one (G.Refused x) (G.Refused y) e = ap G.Refused (number-one x y (cc))

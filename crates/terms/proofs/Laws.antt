@@ -21,9 +21,9 @@ rung P true f g = f refl
 rung P false f g = g refl
 
 -- a ladder that does not end at a rung has passed it
-pub rung-passed : {A : Type 0} {x y z : A} (t : Bool) → (x ≡ z → ⊥) → (x when t else y) ≡ z → (t ≡ false) × (y ≡ z)
-rung-passed true n e = absurd (n e)
-rung-passed false n e = (refl, e)
+pub rung_passed : {A : Type 0} {x y z : A} (t : Bool) → (x ≡ z → ⊥) → (x when t else y) ≡ z → (t ≡ false) × (y ≡ z)
+rung_passed true n e = absurd (n e)
+rung_passed false n e = (refl, e)
 
 pub bool_iff : (a b : Bool) → (a ≡ true → b ≡ true) → (b ≡ true → a ≡ true) → a ≡ b
 bool_iff true b f g = sym (f refl)
@@ -60,18 +60,18 @@ or_left false b e t = sym e ∙ t
 pub or_right : (a b : Bool) → a ≡ false → (a || b) ≡ true → b ≡ true
 or_right a b e t = rw e at t
 
-pub or-of : (a b : Bool) → (a ≡ false → b ≡ true) → (a || b) ≡ true
-or-of true b f = refl
-or-of false b f = f refl
+pub or_of : (a b : Bool) → (a ≡ false → b ≡ true) → (a || b) ≡ true
+or_of true b f = refl
+or_of false b f = f refl
 
-pub or-false-left : (a b : Bool) → (a || b) ≡ false → a ≡ false
-or-false-left true b e = e
-or-false-left false b e = refl
+pub or_false_left : (a b : Bool) → (a || b) ≡ false → a ≡ false
+or_false_left true b e = e
+or_false_left false b e = refl
 
-pub or-false-right : (a b : Bool) → (a || b) ≡ false → b ≡ false
-or-false-right true true e = e
-or-false-right true false e = refl
-or-false-right false b e = e
+pub or_false_right : (a b : Bool) → (a || b) ≡ false → b ≡ false
+or_false_right true true e = e
+or_false_right true false e = refl
+or_false_right false b e = e
 
 -- a rung of a ladder that ends in values was passed
 pub past : {A : Type 0} (number : ℕ) (test : Bool) (rest : Saying A) (given : A) → (refusal number when test else rest) ≡ values given
@@ -94,10 +94,10 @@ each_of p (x ∷ xs) i f =
     (rw add-zero at (f 0 (omega arith)))
     (each_of p xs (suc i) (λ k h. subst (λ (m : ℕ). p m (get_or xs k 0) ≡ true) (add-suc i k ∙ sym (suc-add i k)) (f (suc k) (omega arith))))
 
-pub all-at : (p : ℕ → Bool) (l : List ℕ) → all p l ≡ true → (k : ℕ) → k < length l → p (get_or l k 0) ≡ true
-all-at p [] t k h = absurd (not-suc-le-zero h)
-all-at p (x ∷ xs) t zero h = and_left (p x) (all p xs) t
-all-at p (x ∷ xs) t (suc k) h = all-at p xs (and_right (p x) (all p xs) t) k (le_of_suc-le-suc h)
+pub all_at : (p : ℕ → Bool) (l : List ℕ) → all p l ≡ true → (k : ℕ) → k < length l → p (get_or l k 0) ≡ true
+all_at p [] t k h = absurd (not-suc-le-zero h)
+all_at p (x ∷ xs) t zero h = and_left (p x) (all p xs) t
+all_at p (x ∷ xs) t (suc k) h = all_at p xs (and_right (p x) (all p xs) t) k (le_of_suc-le-suc h)
 
 pub all_of : (p : ℕ → Bool) (l : List ℕ) → ((k : ℕ) → k < length l → p (get_or l k 0) ≡ true) → all p l ≡ true
 all_of p [] f = refl
@@ -112,7 +112,7 @@ module _ (p : ℕ → Bool) (l : List ℕ) (a b : ℕ) where
       let j : k - a < length (part l a b) = simp (length-take, length-drop) (omega arith) in
       let g : get_or (part l a b) (k - a) 0 ≡ get_or l k 0 =
       get_or-take (b - a) (drop a l) (k - a) 0 (omega arith) ∙ get_or-drop a l (k - a) 0 ∙ ap (λ (m : ℕ). get_or l m 0) e in
-      subst (λ (m : ℕ). p m ≡ true) g (all-at p (part l a b) t (k - a) j)
+      subst (λ (m : ℕ). p m ≡ true) g (all_at p (part l a b) t (k - a) j)
 
   pub part_of : ((k : ℕ) → a ≤ k → k < b → k < length l → p (get_or l k 0) ≡ true) → all p (part l a b) ≡ true
   part_of f =

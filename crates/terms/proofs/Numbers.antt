@@ -21,15 +21,15 @@ table =
     R.TimeLarge ∷ []
 
 -- the refusal of a number: the first that has it
-firstWith : ℕ → List Refusal → Refusal
-firstWith n [] = R.PacketShort
-firstWith n (r ∷ rs) = r when eqb (number_of r) n else firstWith n rs
+first_with : ℕ → List Refusal → Refusal
+first_with n [] = R.PacketShort
+first_with n (r ∷ rs) = r when eqb (number_of r) n else first_with n rs
 
-refusalOf : ℕ → Refusal
-refusalOf n = firstWith n table
+refusal_of : ℕ → Refusal
+refusal_of n = first_with n table
 
-back : (r : Refusal) → (refusalOf (number_of r) ≡ r) × (ltb 0 (number_of r) ≡ true)
-unfolding refusalOf firstWith table
+back : (r : Refusal) → (refusal_of (number_of r) ≡ r) × (ltb 0 (number_of r) ≡ true)
+unfolding refusal_of first_with table
 back R.PacketShort = (refl, refl)
 back R.PacketLong = (refl, refl)
 back R.OptionCut = (refl, refl)
@@ -63,7 +63,7 @@ back R.LengthUnfit = (refl, refl)
 back R.TimeLarge = (refl, refl)
 
 pub number-one : (a b : Refusal) → number_of a ≡ number_of b → a ≡ b
-number-one a b e = sym (back a).0 ∙ ap refusalOf e ∙ (back b).0
+number-one a b e = sym (back a).0 ∙ ap refusal_of e ∙ (back b).0
 
 pub number-some : (r : Refusal) → 0 < number_of r
 number-some r = ltb-true 0 (number_of r) (back r).1

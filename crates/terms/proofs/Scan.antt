@@ -26,13 +26,13 @@ pub record Scanned (p : ℕ → Bool) (l : List ℕ) (n from to end : ℕ) (ok :
   pub is : ok ≡ all p (part l from i)
 
 module _ (p : ℕ → Bool) (l : List ℕ) (n from to end : ℕ) where
-  pub scan-start : length l ≡ n → end ≡ min to n → Scanned p l n from to end true from
-  scan-start long ends =
+  pub scan_start : length l ≡ n → end ≡ min to n → Scanned p l n from to end true from
+  scan_start long ends =
       let e : from - from ≡ 0 = omega arith in
       record { long = long; low = omega arith; high = omega arith; ends = ends; is = rw e }
 
-  pub scan-more : (ok : Bool) (i : ℕ) → Scanned p l n from to end ok i → i < end → Scanned p l n from to end (ok && p (get_or l i 0)) (i + 1)
-  scan-more ok i s k =
+  pub scan_more : (ok : Bool) (i : ℕ) → Scanned p l n from to end ok i → i < end → Scanned p l n from to end (ok && p (get_or l i 0)) (i + 1)
+  scan_more ok i s k =
       let e : i + 1 - from ≡ suc (i - from) = omega arith in
       let f : from + (i - from) ≡ i = omega arith in
       let d : i - from < length (drop from l) = simp length-drop (omega arith) in
@@ -45,8 +45,8 @@ module _ (p : ℕ → Bool) (l : List ℕ) (n from to end : ℕ) where
             ∙ rw (e, take-suc (drop from l) (i - from) 0 d, all_append, get_or-drop from l (i - from) 0, f, and-true);
       }
 
-  pub scan-end : (ok : Bool) (i : ℕ) → Scanned p l n from to end ok i → end ≤ i → ok ≡ all p (part l from to)
-  scan-end ok i s k =
+  pub scan_end : (ok : Bool) (i : ℕ) → Scanned p l n from to end ok i → end ≤ i → ok ≡ all p (part l from to)
+  scan_end ok i s k =
       s.is
       ∙ case
       (λ (t : to ≤ n). let q : i - from ≡ to - from = omega arith in ap (λ (k : ℕ). all p (take k (drop from l))) q)

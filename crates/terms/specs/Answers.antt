@@ -6,7 +6,7 @@ use Rattle.terms.specs.declared.Answer.TheVariants as A
 use Rattle.terms.specs.declared.Given.{Given}
 use Rattle.terms.specs.declared.Given.TheVariants as G
 
-infixr 20 ◌unlessRefused◌else◌
+infixr 20 ◌unless_refused◌else◌
 -- of a call that gives an A where it is done
 pub data Saying (A : Type 0) : Type 0 where
   -- refused, with document 01's number
@@ -19,9 +19,9 @@ abbrev pub Said : Type 0
 Said = Saying (List ℕ)
 
 -- every refusal changes nothing: what a call leaves, where it was done and where it was refused
-abbrev pub ◌unlessRefused◌else◌ : {A B : Type 0} → A → Saying B → A → A
-after unlessRefused refusal number else before = before
-after unlessRefused values given else before = after
+abbrev pub ◌unless_refused◌else◌ : {A B : Type 0} → A → Saying B → A → A
+after unless_refused refusal number else before = before
+after unless_refused values given else before = after
 
 -- an answer that gives nothing
 abbrev pub said : Answer → Said

@@ -2,18 +2,18 @@
 use Prim.Native.Nat.{ℕ}
 use mathlib.Core.Path.{◌≡◌}
 use Rattle.terms.proofs.Determined.{determined}
-use Rattle.timer.specs.Timer.{sampledOf, rtoOf}
-use Rattle.timer.specs.Window.{grownOf, fallenOf}
+use Rattle.timer.specs.Timer.{sampled_of, rto_of}
+use Rattle.timer.specs.Window.{grown_of, fallen_of}
 use Rattle.timer.specs.declared.Timing.{Timing}
 
-pub sampled-determined : (t : Timing) (sample : ℕ) (a b : Timing) → a ≡ sampledOf t sample → b ≡ sampledOf t sample → a ≡ b
-sampled-determined t sample a b p q = determined p q
+pub sampled_determined : (t : Timing) (sample : ℕ) (a b : Timing) → a ≡ sampled_of t sample → b ≡ sampled_of t sample → a ≡ b
+sampled_determined t sample a b p q = determined p q
 
-pub rto-determined : (t : Timing) (a b : ℕ) → a ≡ rtoOf t → b ≡ rtoOf t → a ≡ b
-rto-determined t a b p q = determined p q
+pub rto_determined : (t : Timing) (a b : ℕ) → a ≡ rto_of t → b ≡ rto_of t → a ≡ b
+rto_determined t a b p q = determined p q
 
-pub window-grown-determined : (window a b : ℕ) → a ≡ grownOf window → b ≡ grownOf window → a ≡ b
-window-grown-determined window a b p q = determined p q
+pub window_grown_determined : (window a b : ℕ) → a ≡ grown_of window → b ≡ grown_of window → a ≡ b
+window_grown_determined window a b p q = determined p q
 
-pub window-fallen-determined : (window a b : ℕ) → a ≡ fallenOf window → b ≡ fallenOf window → a ≡ b
-window-fallen-determined window a b p q = determined p q
+pub window_fallen_determined : (window a b : ℕ) → a ≡ fallen_of window → b ≡ fallen_of window → a ≡ b
+window_fallen_determined window a b p q = determined p q

@@ -9,28 +9,28 @@ abbrev pub ∣◌−◌∣ : ℕ → ℕ → ℕ
 ∣ a − b ∣ = max a b - min a b
 
 -- deviation' = (3·deviation + |RTT − R|)/4
-abbrev pub deviationOf : ℕ → ℕ → ℕ → ℕ
-deviationOf rtt deviation R = (3 * deviation + ∣ rtt − R ∣) / 4
+abbrev pub deviation_of : ℕ → ℕ → ℕ → ℕ
+deviation_of rtt deviation R = (3 * deviation + ∣ rtt − R ∣) / 4
 
 -- then RTT' = (7·RTT + R)/8
-abbrev pub smoothedOf : ℕ → ℕ → ℕ
-smoothedOf rtt R = (7 * rtt + R) / 8
+abbrev pub smoothed_of : ℕ → ℕ → ℕ
+smoothed_of rtt R = (7 * rtt + R) / 8
 
 -- first sample: RTT = R, deviation = R/2; later: both as above
-unfoldable pub sampledOf : Timing → ℕ → Timing
-sampledOf Unsampled R = Sampled R (R / 2)
-sampledOf (Sampled rtt deviation) R = Sampled (smoothedOf rtt R) (deviationOf rtt deviation R)
+unfoldable pub sampled_of : Timing → ℕ → Timing
+sampled_of Unsampled R = Sampled R (R / 2)
+sampled_of (Sampled rtt deviation) R = Sampled (smoothed_of rtt R) (deviation_of rtt deviation R)
 
 -- held to 1,000 to 60,000
 abbrev pub held_of : ℕ → ℕ
 held_of time = max 1000 (min time 60000)
 
 -- RTO = RTT + 4·deviation, held; before a sample 9,000
-unfoldable pub rtoOf : Timing → ℕ
-rtoOf Unsampled = 9000
-rtoOf (Sampled rtt deviation) = held_of (rtt + 4 * deviation)
+unfoldable pub rto_of : Timing → ℕ
+rto_of Unsampled = 9000
+rto_of (Sampled rtt deviation) = held_of (rtt + 4 * deviation)
 
 -- the rule of a state: RTT and deviation below 2^32
-unfoldable pub timingFits : Timing → Bool
-timingFits Unsampled = true
-timingFits (Sampled rtt deviation) = ltb rtt (2 ^ 32) && ltb deviation (2 ^ 32)
+unfoldable pub timing_fits : Timing → Bool
+timing_fits Unsampled = true
+timing_fits (Sampled rtt deviation) = ltb rtt (2 ^ 32) && ltb deviation (2 ^ 32)

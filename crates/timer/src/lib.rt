@@ -1,7 +1,7 @@
 // Round-trip time, timeout and window: document 01's timer, RFC 6298 in whole milliseconds without its granularity term.
 ghost use Rattle.std.specs.Prelude.{◌≡◌};
-ghost use Rattle.timer.specs.Timer.{∣◌−◌∣, smoothedOf, deviationOf, sampledOf, held_of, rtoOf};
-ghost use Rattle.timer.specs.Window.{grownOf, fallenOf};
+ghost use Rattle.timer.specs.Timer.{∣◌−◌∣, smoothed_of, deviation_of, sampled_of, held_of, rto_of};
+ghost use Rattle.timer.specs.Window.{grown_of, fallen_of};
 
 // What the samples so far have told. One enum stands for the Rust's `Rtt` and `Rto`, since document 01 has both become
 // unsampled together: a sampled time beside an unsampled timeout cannot be written down. The timeout is computed from it.
@@ -22,7 +22,7 @@ fn apart(a: u32, b: u32) -> u32
 
 // The smoothed time after a later sample. Ports `Rtt::calculate_rtt`. The sum is taken in 64 bits: eight times a time may not fit 32.
 fn smoothed(rtt: u32, sample: u32) -> u32
-    ensures { result ≡ smoothedOf rtt sample }
+    ensures { result ≡ smoothed_of rtt sample }
 {
     ((7 * (rtt as u64) + (sample as u64)) / 8) as u32
 }
@@ -30,7 +30,7 @@ fn smoothed(rtt: u32, sample: u32) -> u32
 // The deviation after a later sample. Ports `Rto::calculate_rto`, mended: it is measured against the smoothed time before that
 // one's update, as RFC 6298 has it.
 fn deviated(rtt: u32, deviation: u32, sample: u32) -> u32
-    ensures { result ≡ deviationOf rtt deviation sample }
+    ensures { result ≡ deviation_of rtt deviation sample }
 {
     let off = apart(rtt, sample);
     ((3 * (deviation as u64) + (off as u64)) / 4) as u32
@@ -52,7 +52,7 @@ fn held(time: u64) -> u64
 impl Timing {
     // The timing after one more sample, in milliseconds. The caller has cut an older age to 4,294,967,295.
     pub fn sampled(self, sample: u32) -> Timing
-        ensures { result ≡ sampledOf self sample }
+        ensures { result ≡ sampled_of self sample }
     {
         match self {
             Timing::Unsampled => Timing::Sampled {
@@ -68,7 +68,7 @@ impl Timing {
 
     // The timeout, in milliseconds: 64 bits wide, since it is added to clocks and compared with ages.
     pub fn rto(self) -> u64
-        ensures { result ≡ rtoOf self }
+        ensures { result ≡ rto_of self }
     {
         match self {
             Timing::Unsampled => 9000,
@@ -80,7 +80,7 @@ impl Timing {
 // The window after an acknowledged packet. Ports the window of `handle_acks`. It is total: a window that no state allows, 0 or
 // above 128, stays.
 pub fn window_grown(window: u32) -> u32
-    ensures { result ≡ grownOf window }
+    ensures { result ≡ grown_of window }
 {
     if window < 64 {
         return 2 * window;
@@ -93,7 +93,7 @@ pub fn window_grown(window: u32) -> u32
 
 // The window after a resend. Ports the window of `resend`.
 pub fn window_fallen(window: u32) -> u32
-    ensures { result ≡ fallenOf window }
+    ensures { result ≡ fallen_of window }
 {
     if window > 1 {
         return window - 1;

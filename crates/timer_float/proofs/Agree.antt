@@ -11,10 +11,10 @@ use lib.Ieee.{Float, fin, binary64, low, prec, emax, round, of_bits, of_int, add
 use lib.Ieee.Exact.{HasValue, round_exact}
 use lib.Ieee.Scale.{round_same}
 use lib.Ieee.Back.{round_whole, unsigned_back}
-use Rattle.timer.specs.Timer.{smoothedOf}
-use Rattle.timer_float.specs.Float.{mixOf, cut_of, float_of}
+use Rattle.timer.specs.Timer.{smoothed_of}
+use Rattle.timer_float.specs.Float.{mix_of, cut_of, float_of}
 use Rattle.timer_float.specs.Engines.{EnginesAgree}
-use Rattle.timer_float.proofs.Values.{mul-value, add-value, rem-one, sub-value}
+use Rattle.timer_float.proofs.Values.{mul_value, add_value, rem_one, sub_value}
 
 abbrev eighths : ℕ → ℕ → ℕ
 eighths old sample = 7 * old + sample
@@ -27,32 +27,32 @@ eighth v h =
     (sym (mul_assoc v (2 ^ 1071) 8))
 
 -- ---- the three constants of the source
-seven-eighths : of_bits binary64 0x3fec_0000_0000_0000 ≡ fin false 7 (negsuc 2)
+seven_eighths : of_bits binary64 0x3fec_0000_0000_0000 ≡ fin false 7 (negsuc 2)
 unfolding of_bits
-seven-eighths = refl
+seven_eighths = refl
 
-one-eighth : of_bits binary64 0x3fc0_0000_0000_0000 ≡ fin false 1 (negsuc 2)
+one_eighth : of_bits binary64 0x3fc0_0000_0000_0000 ≡ fin false 1 (negsuc 2)
 unfolding of_bits
-one-eighth = refl
+one_eighth = refl
 
 one : of_bits binary64 0x3ff0_0000_0000_0000 ≡ fin false 1 (pos 0)
 unfolding of_bits
 one = refl
 
 -- ---- a time as a float
-pub time-fits : (n : ℕ) → n < 4294967296 → T (in_float binary64 (pos n))
+pub time_fits : (n : ℕ) → n < 4294967296 → T (in_float binary64 (pos n))
 unfolding in_float
-time-fits n h = le→leb n (2 ^ 53) (omega arith)
+time_fits n h = le→leb n (2 ^ 53) (omega arith)
 
-time-value : (n : ℕ) → n < 4294967296 → HasValue (of_int binary64 (pos n)) false n 1
+time_value : (n : ℕ) → n < 4294967296 → HasValue (of_int binary64 (pos n)) false n 1
 unfolding of_int
-time-value n h = round_whole binary64 false n (omega arith)
+time_value n h = round_whole binary64 false n (omega arith)
 
 -- k eighths of a time
-part-value : (k n : ℕ) → k < 8 → n < 4294967296 → HasValue (mul binary64 (fin false k (negsuc 2)) (of_int binary64 (pos n))) false (k * n) 8
-part-value k n h l =
+part_value : (k n : ℕ) → k < 8 → n < 4294967296 → HasValue (mul binary64 (fin false k (negsuc 2)) (of_int binary64 (pos n))) false (k * n) 8
+part_value k n h l =
     subst (λ (x : Float). HasValue x false (k * n) 8)
-    (sym (mul-value binary64 (fin false k (negsuc 2)) (of_int binary64 (pos n)) k 8 n 1 (lit< tt) (lit< tt) (refl, mul_right k) (time-value n l)))
+    (sym (mul_value binary64 (fin false k (negsuc 2)) (of_int binary64 (pos n)) k 8 n 1 (lit< tt) (lit< tt) (refl, mul_right k) (time_value n l)))
     (eighth (k * n) (small k n h l))
   where
     mul_right : (k : ℕ) → k * 1 * 8 ≡ k * 8
@@ -62,48 +62,48 @@ part-value k n h l =
     small k n h l = lt_of_le_of_lt (mul-le-mul (le_of_lt h) (le_of_lt l)) (lit< tt)
 
 module _ (old sample : ℕ) (o : old < 4294967296) (s : sample < 4294967296) where
-  mix-value : HasValue (mixOf old sample) false (7 * old + sample) 8
-  unfolding mixOf
-  mix-value =
+  mix_value : HasValue (mix_of old sample) false (7 * old + sample) 8
+  unfolding mix_of
+  mix_value =
       let a : HasValue (mul binary64 (of_bits binary64 0x3fec_0000_0000_0000) (of_int binary64 (pos old))) false (7 * old) 8 =
-      subst (λ (x : Float). HasValue (mul binary64 x (of_int binary64 (pos old))) false (7 * old) 8) (sym seven-eighths) (part-value 7 old (lit< tt) o) in
+      subst (λ (x : Float). HasValue (mul binary64 x (of_int binary64 (pos old))) false (7 * old) 8) (sym seven_eighths) (part_value 7 old (lit< tt) o) in
       let b : HasValue (mul binary64 (of_bits binary64 0x3fc0_0000_0000_0000) (of_int binary64 (pos sample))) false sample 8 =
-      subst (λ (x : Float). HasValue (mul binary64 x (of_int binary64 (pos sample))) false sample 8) (sym one-eighth)
-      (subst (λ (x : ℕ). HasValue (mul binary64 (fin false 1 (negsuc 2)) (of_int binary64 (pos sample))) false x 8) (one-mul sample) (part-value 1 sample (lit< tt) s)) in
+      subst (λ (x : Float). HasValue (mul binary64 x (of_int binary64 (pos sample))) false sample 8) (sym one_eighth)
+      (subst (λ (x : ℕ). HasValue (mul binary64 (fin false 1 (negsuc 2)) (of_int binary64 (pos sample))) false x 8) (one-mul sample) (part_value 1 sample (lit< tt) s)) in
       subst (λ (x : Float). HasValue x false (7 * old + sample) 8)
-      (sym (add-value binary64 (mul binary64 (of_bits binary64 0x3fec_0000_0000_0000) (of_int binary64 (pos old)))
+      (sym (add_value binary64 (mul binary64 (of_bits binary64 0x3fec_0000_0000_0000) (of_int binary64 (pos old)))
       (mul binary64 (of_bits binary64 0x3fc0_0000_0000_0000) (of_int binary64 (pos sample))) (7 * old) sample 8 (lit< tt) a b))
       (eighth (7 * old + sample) (omega arith))
 
 -- ---- the fraction is taken off
-cut-is : (x : Float) (v : ℕ) → v < 2 ^ 53 → HasValue x false v 8 → cut_of x ≡ of_int binary64 (pos (v / 8))
+cut_is : (x : Float) (v : ℕ) → v < 2 ^ 53 → HasValue x false v 8 → cut_of x ≡ of_int binary64 (pos (v / 8))
 unfolding cut_of of_int
-cut-is x v h k =
+cut_is x v h k =
     let r : rem binary64 x (of_bits binary64 0x3ff0_0000_0000_0000) ≡ round binary64 false (v % 8) 8 =
-    ap (λ (y : Float). rem binary64 x y) one ∙ rem-one binary64 x v 8 (lit< tt) k in
+    ap (λ (y : Float). rem binary64 x y) one ∙ rem_one binary64 x v 8 (lit< tt) k in
     let p : HasValue (rem binary64 x (of_bits binary64 0x3ff0_0000_0000_0000)) false (v % 8) 8 =
     subst (λ (y : Float). HasValue y false (v % 8) 8) (sym r) (eighth (v % 8) (lt_of_le_of_lt (mod-le v 8) h)) in
-    sub-value binary64 x (rem binary64 x (of_bits binary64 0x3ff0_0000_0000_0000)) v (v % 8) 8 (lit< tt) (mod-le v 8) k p
+    sub_value binary64 x (rem binary64 x (of_bits binary64 0x3ff0_0000_0000_0000)) v (v % 8) 8 (lit< tt) (mod-le v 8) k p
     ∙ round_same binary64 false (v - v % 8) 8 (v / 8) 1 (lit< tt) (lit< tt) (whole v)
   where
     whole : (v : ℕ) → (v - v % 8) * 1 ≡ v / 8 * 8
     whole v = omega arith
 
 module _ (old sample : ℕ) (o : old < 4294967296) (s : sample < 4294967296) where
-  cut-mix : cut_of (mixOf old sample) ≡ of_int binary64 (pos ((7 * old + sample) / 8))
-  cut-mix = cut-is (mixOf old sample) (7 * old + sample) (omega arith) (mix-value old sample o s)
+  cut_mix : cut_of (mix_of old sample) ≡ of_int binary64 (pos ((7 * old + sample) / 8))
+  cut_mix = cut_is (mix_of old sample) (7 * old + sample) (omega arith) (mix_value old sample o s)
 
   back : T (in_unsigned binary64 64 (of_int binary64 (pos ((7 * old + sample) / 8)))) × (to_unsigned 64 (of_int binary64 (pos ((7 * old + sample) / 8))) ≡ (7 * old + sample) / 8)
-  back = unsigned_back binary64 64 ((7 * old + sample) / 8) (time-fits ((7 * old + sample) / 8) (omega arith)) (omega arith)
+  back = unsigned_back binary64 64 ((7 * old + sample) / 8) (time_fits ((7 * old + sample) / 8) (omega arith)) (omega arith)
 
   -- what is left is a whole number that a u64 holds: the cast loses nothing
-  pub cast_fits : T (in_unsigned binary64 64 (cut_of (mixOf old sample)))
-  cast_fits = subst (λ (x : Float). T (in_unsigned binary64 64 x)) (sym cut-mix) back.0
+  pub cast_fits : T (in_unsigned binary64 64 (cut_of (mix_of old sample)))
+  cast_fits = subst (λ (x : Float). T (in_unsigned binary64 64 x)) (sym cut_mix) back.0
 
-  pub agree : float_of old sample ≡ smoothedOf old sample
+  pub agree : float_of old sample ≡ smoothed_of old sample
   unfolding float_of
-  agree = ap (to_unsigned 64) cut-mix ∙ back.1
+  agree = ap (to_unsigned 64) cut_mix ∙ back.1
 
 -- the theorem
-pub engines-agree : EnginesAgree
-engines-agree old sample o s = agree old sample (omega arith) (omega arith)
+pub engines_agree : EnginesAgree
+engines_agree old sample o s = agree old sample (omega arith) (omega arith)

@@ -9,8 +9,8 @@ use Rattle.timer_float.specs.declared.Smoothed.{Smoothed}
 use Rattle.timer_float.specs.declared.Smoothed.TheVariants as S
 
 -- 0.875 times the old plus 0.125 times the sample
-unfoldable pub mixOf : ℕ → ℕ → Float
-mixOf old sample =
+unfoldable pub mix_of : ℕ → ℕ → Float
+mix_of old sample =
     add binary64 (mul binary64 (of_bits binary64 0x3fec_0000_0000_0000) (of_int binary64 (pos old)))
     (mul binary64 (of_bits binary64 0x3fc0_0000_0000_0000) (of_int binary64 (pos sample)))
 
@@ -20,16 +20,16 @@ cut_of x = sub binary64 x (rem binary64 x (of_bits binary64 0x3ff0_0000_0000_000
 
 -- cut to whole milliseconds
 unfoldable pub float_of : ℕ → ℕ → ℕ
-float_of old sample = to_unsigned 64 (cut_of (mixOf old sample))
+float_of old sample = to_unsigned 64 (cut_of (mix_of old sample))
 
 -- the answer by an engine: 31 for a larger time, the old one or the sample
-unfoldable pub smoothSaid : (ℕ → ℕ → ℕ) → ℕ → ℕ → Said
-smoothSaid engine old sample =
+unfoldable pub smooth_said : (ℕ → ℕ → ℕ) → ℕ → ℕ → Said
+smooth_said engine old sample =
     refusal 31 when ltb 4294967295 old else
     refusal 31 when ltb 4294967295 sample else
     values (engine old sample ∷ [])
 
 -- a refusal's number, or the time
-abbrev pub smoothedSaid : Smoothed → Said
-smoothedSaid (S.Time time) = values (time ∷ [])
-smoothedSaid (S.Refused why) = refusal (number_of why)
+abbrev pub smoothed_said : Smoothed → Said
+smoothed_said (S.Time time) = values (time ∷ [])
+smoothed_said (S.Refused why) = refusal (number_of why)

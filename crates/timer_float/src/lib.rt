@@ -1,8 +1,8 @@
 // The smoothed time as the Rust has it: 0.875 of the old and 0.125 of the sample in f64, cut to whole milliseconds. A second engine beside `timer`'s, which goes in
 // whole numbers; they agree on every pair of times up to 4,294,967,295 (proofs/Agree). Ports the expression of `Rtt::calculate_rtt`.
 ghost use Rattle.std.specs.Prelude.{◌≡◌, ◌<◌};
-ghost use Rattle.timer.specs.Timer.{smoothedOf};
-ghost use Rattle.timer_float.specs.Float.{float_of, smoothedSaid, smoothSaid};
+ghost use Rattle.timer.specs.Timer.{smoothed_of};
+ghost use Rattle.timer_float.specs.Float.{float_of, smoothed_said, smooth_said};
 
 use terms::Refusal;
 
@@ -17,7 +17,7 @@ pub enum Smoothed {
 // Cutting down is worked out: what is left of the remainder by 1.0 is whole, and the cast loses nothing.
 fn float(old: u64, sample: u64) -> u64
     requires { (old < 4294967296) × (sample < 4294967296) }
-    ensures { (result ≡ float_of old sample) × (result ≡ smoothedOf old sample) }
+    ensures { (result ≡ float_of old sample) × (result ≡ smoothed_of old sample) }
 {
     let x = 0.875 * (old as f64) + 0.125 * (sample as f64);
     let part = x % 1.0;
@@ -27,7 +27,7 @@ fn float(old: u64, sample: u64) -> u64
 // The new smoothed time, of the old one and a sample. A larger time than 4,294,967,295 is refused, the old one and the sample alike. The promise says it twice: it
 // is the f64 expression's, and it is the whole-number engine's.
 pub fn smooth_float(old: u64, sample: u64) -> Smoothed
-    ensures { (smoothedSaid result ≡ smoothSaid float_of old sample) × (smoothedSaid result ≡ smoothSaid smoothedOf old sample) }
+    ensures { (smoothed_said result ≡ smooth_said float_of old sample) × (smoothed_said result ≡ smooth_said smoothed_of old sample) }
 {
     if old > 4294967295 {
         return Smoothed::Refused(Refusal::TimeLarge);

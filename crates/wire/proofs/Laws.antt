@@ -7,8 +7,8 @@ use native.Mathlib.Numerals.{add-one}
 use native.Mathlib.Omega.{arith}
 use lib.ListN.{length, get_or, take, drop, set, length-append, length-drop}
 use lib.Seq.{take-suc, drop-cons, length-take-le, sets, sets-eq, paste, paste-suc}
-use Rattle.terms.specs.Lists.{◌atFrontOf◌}
-use Rattle.wire.specs.BigEndian.{bytes_of, bytesOfEach, number_at}
+use Rattle.terms.specs.Lists.{◌at_front_of◌}
+use Rattle.wire.specs.BigEndian.{bytes_of, bytes_of_each, number_at}
 
 -- the first byte, and the number that the others spell
 pub number_step : (k at : ℕ) (s : List ℕ) → at + suc k ≤ length s → number_at (suc k) at s ≡ get_or s at 0 * 256 ^ k + number_at k (at + 1) s
@@ -32,7 +32,7 @@ number4 at s h =
     omega (arith, number_step 3 at s h, number-next 2 at 1 s (omega arith), number-next 1 at 2 s (omega arith), number-next 0 at 3 s (omega arith))
 
 -- bytes stored one by one from the front
-pub stored : (bytes rest : List ℕ) → length bytes ≤ length rest → sets rest 0 bytes ≡ bytes atFrontOf rest
+pub stored : (bytes rest : List ℕ) → length bytes ≤ length rest → sets rest 0 bytes ≡ bytes at_front_of rest
 stored bytes rest h = sets-eq bytes rest 0 (omega (arith, zero-add (length bytes))) ∙ rw zero-add
 
 -- one byte more of a copy to the front
@@ -44,14 +44,14 @@ pub length-bytes : (k x : ℕ) → length (bytes_of k x) ≡ k
 length-bytes zero x = refl
 length-bytes (suc k) x = ap suc (length-bytes k x)
 
-pub length-each : (k : ℕ) (xs : List ℕ) → length (bytesOfEach k xs) ≡ k * length xs
+pub length-each : (k : ℕ) (xs : List ℕ) → length (bytes_of_each k xs) ≡ k * length xs
 length-each k [] = sym (mul-zero k)
 length-each k (x ∷ xs) = rw (length-append, length-bytes, length-each k xs, mul-suc) (add_comm k (k * length xs))
 
-pub each_append : (k : ℕ) (xs ys : List ℕ) → bytesOfEach k (xs ++ ys) ≡ bytesOfEach k xs ++ bytesOfEach k ys
+pub each_append : (k : ℕ) (xs ys : List ℕ) → bytes_of_each k (xs ++ ys) ≡ bytes_of_each k xs ++ bytes_of_each k ys
 each_append k [] ys = refl
-each_append k (x ∷ xs) ys = rw (each_append k xs ys) (sym (append_assoc (bytes_of k x) (bytesOfEach k xs) (bytesOfEach k ys)))
+each_append k (x ∷ xs) ys = rw (each_append k xs ys) (sym (append_assoc (bytes_of k x) (bytes_of_each k xs) (bytes_of_each k ys)))
 
 -- one number more
-pub each_more : (k : ℕ) (xs : List ℕ) (j : ℕ) → j < length xs → bytesOfEach k (take (j + 1) xs) ≡ bytesOfEach k (take j xs) ++ bytes_of k (get_or xs j 0)
-each_more k xs j h = rw (add-one, take-suc xs j 0 h, each_append) (ap (λ (l : List ℕ). bytesOfEach k (take j xs) ++ l) (append-nil (bytes_of k (get_or xs j 0))))
+pub each_more : (k : ℕ) (xs : List ℕ) (j : ℕ) → j < length xs → bytes_of_each k (take (j + 1) xs) ≡ bytes_of_each k (take j xs) ++ bytes_of k (get_or xs j 0)
+each_more k xs j h = rw (add-one, take-suc xs j 0 h, each_append) (ap (λ (l : List ℕ). bytes_of_each k (take j xs) ++ l) (append-nil (bytes_of k (get_or xs j 0))))

@@ -20,11 +20,11 @@ abbrev pub number_at : ℕ → ℕ → List ℕ → ℕ
 number_at k at s = spelled (take k (drop at s))
 
 -- numbers one behind the other, k bytes each
-abbrev pub bytesOfEach : ℕ → List ℕ → List ℕ
-bytesOfEach k [] = []
-bytesOfEach k (x ∷ xs) = bytes_of k x ++ bytesOfEach k xs
+abbrev pub bytes_of_each : ℕ → List ℕ → List ℕ
+bytes_of_each k [] = []
+bytes_of_each k (x ∷ xs) = bytes_of k x ++ bytes_of_each k xs
 
 -- the n numbers that stand from at, k bytes each
-abbrev pub numbersAt : ℕ → ℕ → ℕ → List ℕ → List ℕ
-numbersAt k zero at s = []
-numbersAt k (suc n) at s = number_at k at s ∷ numbersAt k n (at + k) s
+abbrev pub numbers_at : ℕ → ℕ → ℕ → List ℕ → List ℕ
+numbers_at k zero at s = []
+numbers_at k (suc n) at s = number_at k at s ∷ numbers_at k n (at + k) s

@@ -1,18 +1,18 @@
 -- What a line of the table says, and that it holds: the definitions are computed, and the result is compared.
 use Rattle.std.specs.Prelude.{ℕ, suc, ◌+◌, ◌-◌, Bool, true, false, ◌&&◌, List, [], ◌∷◌, ◌++◌, eqb, length, replicate}
 use Rattle.terms.specs.Answers.{Said, refusal, values}
-use Rattle.receiver_runs.specs.Runs.{Call, Event, begun, eventsOf}
-use Rattle.receiver_runs.specs.History.{Piece, takenIn}
-use Rattle.timer.specs.Timer.{smoothedOf, sampledOf, rtoOf}
-use Rattle.timer.specs.Window.{grownOf}
+use Rattle.receiver_runs.specs.Runs.{Call, Event, begun, events_of}
+use Rattle.receiver_runs.specs.History.{Piece, taken_in}
+use Rattle.timer.specs.Timer.{smoothed_of, sampled_of, rto_of}
+use Rattle.timer.specs.Window.{grown_of}
 use Rattle.timer.specs.declared.Timing.{Timing}
 use Rattle.timer.specs.declared.Timing.TheVariants as G
-use Rattle.timer_float.specs.Float.{float_of, smoothSaid}
+use Rattle.timer_float.specs.Float.{float_of, smooth_said}
 use Rattle.sender_state.specs.Places.{state_of}
 use Rattle.sender_state.specs.Answers.{Outcome}
 use Rattle.sender_state.specs.declared.Sender.{Sender}
 use Rattle.sender_state.specs.declared.Timer.TheVariants as T
-use Rattle.sender_resend.specs.Resend.{resendOf}
+use Rattle.sender_resend.specs.Resend.{resend_of}
 
 pub data Line : Type 0 where
   -- a receiver is started after s; then these calls: what the last one answers, and the output as it leaves it
@@ -35,17 +35,17 @@ same (x ∷ xs) [] = false
 same (x ∷ xs) (y ∷ ys) = eqb x y && same xs ys
 
 -- an answer as numbers: 1 and the refusal's, or 0 and the values
-abbrev inNumbers : Said → List ℕ
-inNumbers (refusal why) = 1 ∷ why ∷ []
-inNumbers (values given) = 0 ∷ given
+abbrev in_numbers : Said → List ℕ
+in_numbers (refusal why) = 1 ∷ why ∷ []
+in_numbers (values given) = 0 ∷ given
 
-abbrev asAnswered : Said → List ℕ → Event → Bool
-asAnswered answer output e = same (inNumbers answer) (inNumbers e.answered) && same output e.output
+abbrev as_answered : Said → List ℕ → Event → Bool
+as_answered answer output e = same (in_numbers answer) (in_numbers e.answered) && same output e.output
 
-abbrev lastIs : Said → List ℕ → List Event → Bool
-lastIs answer output [] = false
-lastIs answer output (e ∷ []) = asAnswered answer output e
-lastIs answer output (e ∷ (f ∷ rest)) = lastIs answer output (f ∷ rest)
+abbrev last_is : Said → List ℕ → List Event → Bool
+last_is answer output [] = false
+last_is answer output (e ∷ []) = as_answered answer output e
+last_is answer output (e ∷ (f ∷ rest)) = last_is answer output (f ∷ rest)
 
 -- pieces as numbers: each one's number, its length, and its bytes
 abbrev spelled : List Piece → List ℕ
@@ -54,23 +54,23 @@ spelled (piece ∷ rest) = piece.number ∷ length piece.bytes ∷ (piece.bytes 
 
 -- the calls of a run, with slots of one byte
 abbrev run_of : ℕ → List Call → List Event
-run_of s calls = eventsOf (begun (record { 0 = s }) 1 (replicate 512 0)) calls
+run_of s calls = events_of (begun (record { 0 = s }) 1 (replicate 512 0)) calls
 
 -- an engine's answer is this time
 abbrev weighing : Said → ℕ → Bool
-weighing said time = same (inNumbers said) (0 ∷ time ∷ [])
+weighing said time = same (in_numbers said) (0 ∷ time ∷ [])
 
 abbrev growing : ℕ → List ℕ → Bool
 growing window [] = true
-growing window (grown ∷ rest) = eqb (grownOf window) grown && growing grown rest
+growing window (grown ∷ rest) = eqb (grown_of window) grown && growing grown rest
 
-abbrev sampledBy : Timing → List ℕ → Timing
-sampledBy timing [] = timing
-sampledBy timing (sample ∷ rest) = sampledBy (sampledOf timing sample) rest
+abbrev sampled_by : Timing → List ℕ → Timing
+sampled_by timing [] = timing
+sampled_by timing (sample ∷ rest) = sampled_by (sampled_of timing sample) rest
 
 abbrev timed : Timing → ℕ → ℕ → ℕ → Bool
 timed G.Unsampled rtt deviation rto = false
-timed (G.Sampled r d) rtt deviation rto = eqb r rtt && (eqb d deviation && eqb (rtoOf (G.Sampled r d)) rto)
+timed (G.Sampled r d) rtt deviation rto = eqb r rtt && (eqb d deviation && eqb (rto_of (G.Sampled r d)) rto)
 
 -- a list of 192 with the given numbers at its front
 abbrev row : List ℕ → List ℕ
@@ -82,9 +82,9 @@ numbered n [] = []
 numbered n (x ∷ l) = n ∷ numbered (suc n) l
 
 -- when each was sent, to have its age at clock 20,000
-abbrev sentTimes : List ℕ → List ℕ
-sentTimes [] = []
-sentTimes (age ∷ rest) = (20000 - age) ∷ sentTimes rest
+abbrev sent_times : List ℕ → List ℕ
+sent_times [] = []
+sent_times (age ∷ rest) = (20000 - age) ∷ sent_times rest
 
 -- a sender at clock 20,000 with these packets in flight and its timer due
 abbrev flying : List ℕ → ℕ → Sender
@@ -93,23 +93,23 @@ flying ages window =
     (record {
       numbers = row (numbered 1 ages);
       lengths = row (replicate (length ages) 22);
-      sent = row (sentTimes ages);
+      sent = row (sent_times ages);
       resent = row [];
       marks = row (replicate (length ages) 2);
     })
 
 abbrev resent : Outcome → ℕ → ℕ → Bool
-resent outcome count window = same (inNumbers outcome.says) (0 ∷ count ∷ []) && eqb outcome.state.window window
+resent outcome count window = same (in_numbers outcome.says) (0 ∷ count ∷ []) && eqb outcome.state.window window
 
 unfoldable pub holds : Line → Bool
-holds (receives s calls answer output) = lastIs answer output (run_of s calls)
-holds (hands s calls pieces) = same (spelled pieces) (spelled (takenIn (run_of s calls)))
+holds (receives s calls answer output) = last_is answer output (run_of s calls)
+holds (hands s calls pieces) = same (spelled pieces) (spelled (taken_in (run_of s calls)))
 holds (grows window list) = growing window list
-holds (smooths samples rtt deviation rto) = timed (sampledBy G.Unsampled samples) rtt deviation rto
-holds (weighs old sample time) = weighing (smoothSaid float_of old sample) time && weighing (smoothSaid smoothedOf old sample) time
-holds (resends ages window count after) = resent (resendOf (flying ages window) 20000 true) count after
+holds (smooths samples rtt deviation rto) = timed (sampled_by G.Unsampled samples) rtt deviation rto
+holds (weighs old sample time) = weighing (smooth_said float_of old sample) time && weighing (smooth_said smoothed_of old sample) time
+holds (resends ages window count after) = resent (resend_of (flying ages window) 20000 true) count after
 
 -- every line holds
-abbrev pub allHold : List Line → Bool
-allHold [] = true
-allHold (line ∷ rest) = holds line && allHold rest
+abbrev pub all_hold : List Line → Bool
+all_hold [] = true
+all_hold (line ∷ rest) = holds line && all_hold rest

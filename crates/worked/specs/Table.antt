@@ -25,16 +25,16 @@ abbrev front : List ℕ
 front = 1 ∷ 2 ∷ 3 ∷ 4 ∷ 10 ∷ 11 ∷ 12 ∷ 13 ∷ 0 ∷ 0 ∷ 0 ∷ 0 ∷ []
 
 -- so many NACKs from n on, of four bytes each; all of them are below 256
-abbrev nacksFrom : ℕ → ℕ → List ℕ
-nacksFrom n zero = []
-nacksFrom n (suc more) = 0 ∷ 0 ∷ 0 ∷ n ∷ nacksFrom (suc n) more
+abbrev nacks_from : ℕ → ℕ → List ℕ
+nacks_from n zero = []
+nacks_from n (suc more) = 0 ∷ 0 ∷ 0 ∷ n ∷ nacks_from (suc n) more
 
 -- resend delay 0, no flag, no option; and resend delay 0, bit 6, two option bytes, the delay 60,001
-abbrev plainEnd : List ℕ
-plainEnd = 0 ∷ 0 ∷ 0 ∷ 0 ∷ 0 ∷ []
+abbrev plain_end : List ℕ
+plain_end = 0 ∷ 0 ∷ 0 ∷ 0 ∷ 0 ∷ []
 
-abbrev delayEnd : List ℕ
-delayEnd = 0 ∷ 0 ∷ 64 ∷ 0 ∷ 2 ∷ 234 ∷ 97 ∷ []
+abbrev delay_end : List ℕ
+delay_end = 0 ∷ 0 ∷ 64 ∷ 0 ∷ 2 ∷ 234 ∷ 97 ∷ []
 
 abbrev piece : ℕ → List ℕ → Piece
 piece n bytes = record { number = n; bytes = bytes }
@@ -42,7 +42,7 @@ piece n bytes = record { number = n; bytes = bytes }
 abbrev pub table : List Line
 table =
     -- s=0: ack-through 0, no NACK, take gives 17
-    receives 0 (asking 22 ∷ []) (values (22 ∷ [])) (front ++ (0 ∷ 0 ∷ 0 ∷ 0 ∷ 0 ∷ plainEnd)) ∷
+    receives 0 (asking 22 ∷ []) (values (22 ∷ [])) (front ++ (0 ∷ 0 ∷ 0 ∷ 0 ∷ 0 ∷ plain_end)) ∷
     receives 0 (taking ∷ []) (refusal 17) (0 ∷ []) ∷
     -- s=0, accept 1, 2, 5: the whole ack
     receives 0 (packet 1 ∷ packet 2 ∷ packet 5 ∷ asking 30 ∷ []) (values (30 ∷ []))
@@ -51,12 +51,12 @@ table =
     hands 0 (empty 2 ∷ packet 3 ∷ packet 1 ∷ packet 4 ∷ taking ∷ taking ∷ taking ∷ taking ∷ taking ∷ [])
     (piece 1 (1 ∷ []) ∷ piece 2 [] ∷ piece 3 (3 ∷ []) ∷ piece 4 (4 ∷ []) ∷ []) ∷
     -- s=0, accept 512: ack-through 255, NACKs 1 to 255, delay, 1,044 bytes; then 513 gives 14
-    receives 0 (packet 512 ∷ asking 1044 ∷ []) (values (1044 ∷ [])) (front ++ (0 ∷ 0 ∷ 0 ∷ 255 ∷ 255 ∷ (nacksFrom 1 255 ++ delayEnd))) ∷
+    receives 0 (packet 512 ∷ asking 1044 ∷ []) (values (1044 ∷ [])) (front ++ (0 ∷ 0 ∷ 0 ∷ 255 ∷ 255 ∷ (nacks_from 1 255 ++ delay_end))) ∷
     receives 0 (packet 512 ∷ packet 513 ∷ []) (refusal 14) [] ∷
     -- s=0, accept 256 only: ack-through 256, 255 NACKs, delay
-    receives 0 (packet 256 ∷ asking 1044 ∷ []) (values (1044 ∷ [])) (front ++ (0 ∷ 0 ∷ 1 ∷ 0 ∷ 255 ∷ (nacksFrom 1 255 ++ delayEnd))) ∷
+    receives 0 (packet 256 ∷ asking 1044 ∷ []) (values (1044 ∷ [])) (front ++ (0 ∷ 0 ∷ 1 ∷ 0 ∷ 255 ∷ (nacks_from 1 255 ++ delay_end))) ∷
     -- 255 only: 254 NACKs, no delay, 1,038 bytes
-    receives 0 (packet 255 ∷ asking 1038 ∷ []) (values (1038 ∷ [])) (front ++ (0 ∷ 0 ∷ 0 ∷ 255 ∷ 254 ∷ (nacksFrom 1 254 ++ plainEnd))) ∷
+    receives 0 (packet 255 ∷ asking 1038 ∷ []) (values (1038 ∷ [])) (front ++ (0 ∷ 0 ∷ 0 ∷ 255 ∷ 254 ∷ (nacks_from 1 254 ++ plain_end))) ∷
     -- s=4,294,967,294: that number gives 13, the next 12
     receives 4294967294 (packet 4294967294 ∷ []) (refusal 13) [] ∷
     receives 4294967294 (packet 4294967295 ∷ []) (refusal 12) [] ∷

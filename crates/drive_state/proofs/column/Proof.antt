@@ -2,19 +2,19 @@
 use Prim.Native.Nat.{◌-◌}
 use mathlib.Core.Path.{refl}
 use borrow.Author.Rules.{rules}
-use Rattle.program_script.proofs.Filling.{Filling, filling-none, filling-more, filling-all}
-use Rattle.drive_state.specs.Registers.{fieldIn}
+use Rattle.program_script.proofs.Filling.{Filling, filling_none, filling_more, filling_all}
+use Rattle.drive_state.specs.Registers.{field_in}
 use Rattle.drive_state.proofs.column.Statement.{statement}
 use Rattle.drive_state.proofs.column.Tie as tie
 
 abbrev invariant-loop : tie.invariant-loop
-invariant-loop bank field all₀ i₀ all i = Filling (fieldIn bank field) 192 i all
+invariant-loop bank field all₀ i₀ all i = Filling (field_in bank field) 192 i all
 
 abbrev decreases-loop : tie.decreases-loop
 decreases-loop bank field all₀ i₀ all i = 192 - i
 
 loop-holds : tie.Need-loop-init invariant-loop decreases-loop
-loop-holds c = filling-none _ _ _ refl
+loop-holds c = filling_none _ _ _ refl
 
 mul-word32 : tie.Need-overflow-mul-word32 invariant-loop decreases-loop
 mul-word32 c = search rules
@@ -41,10 +41,10 @@ loop-less : tie.Need-loop-smaller invariant-loop decreases-loop
 loop-less c = search rules
 
 loop-again : tie.Need-loop-preserved invariant-loop decreases-loop
-loop-again c = filling-more _ _ _ _ _ c.before.loop-test.true c.word32.ensures c.before.before.loop.invariant
+loop-again c = filling_more _ _ _ _ _ c.before.loop-test.true c.word32.ensures c.before.before.loop.invariant
 
 returns : tie.Need-returns invariant-loop decreases-loop
-returns c = filling-all _ _ _ _ c.loop-test.false c.before.loop.invariant
+returns c = filling_all _ _ _ _ c.loop-test.false c.before.loop.invariant
 
 pub column-spec : {M : Type 1} → statement M
 column-spec =

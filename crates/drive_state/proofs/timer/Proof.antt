@@ -6,8 +6,8 @@ use Rattle.sender_state.specs.declared.Timer.TheVariants as T
 use Rattle.drive_state.proofs.timer.Statement.{statement}
 use Rattle.drive_state.proofs.timer.Tie as tie
 
-add-value : tie.Need-overflow-add-value
-add-value c = search rules
+add_value : tie.Need-overflow-add-value
+add_value c = search rules
 
 value-requires : tie.Need-value-requires
 value-requires c κs = search rules
@@ -28,4 +28,4 @@ returns-2 c =
 
 pub timer-spec : {M : Type 1} → statement M
 timer-spec =
-    tie.close (tie.spec add-value value-requires returns add-value-2 value-requires-2 returns-2)
+    tie.close (tie.spec add_value value-requires returns add-value-2 value-requires-2 returns-2)

@@ -2,25 +2,25 @@
 use Prim.Native.Nat.{◌-◌}
 use mathlib.Core.Path.{refl}
 use borrow.Author.Rules.{rules}
-use Rattle.program_script.proofs.Filling.{Filling, filling-none, filling-more, filling-all}
-use Rattle.drive_state.specs.Registers.{timeIn}
+use Rattle.program_script.proofs.Filling.{Filling, filling_none, filling_more, filling_all}
+use Rattle.drive_state.specs.Registers.{time_in}
 use Rattle.drive_state.proofs.times.Statement.{statement}
 use Rattle.drive_state.proofs.times.Tie as tie
 
 abbrev invariant-loop : tie.invariant-loop
-invariant-loop bank all₀ i₀ all i = Filling (timeIn bank) 192 i all
+invariant-loop bank all₀ i₀ all i = Filling (time_in bank) 192 i all
 
 abbrev decreases-loop : tie.decreases-loop
 decreases-loop bank all₀ i₀ all i = 192 - i
 
 loop-holds : tie.Need-loop-init invariant-loop decreases-loop
-loop-holds c = filling-none _ _ _ refl
+loop-holds c = filling_none _ _ _ refl
 
-mul-value : tie.Need-overflow-mul-value invariant-loop decreases-loop
-mul-value c = search rules
+mul_value : tie.Need-overflow-mul-value invariant-loop decreases-loop
+mul_value c = search rules
 
-add-value : tie.Need-overflow-add-value invariant-loop decreases-loop
-add-value c = search rules
+add_value : tie.Need-overflow-add-value invariant-loop decreases-loop
+add_value c = search rules
 
 add-value-2 : tie.Need-overflow-add-value-2 invariant-loop decreases-loop
 add-value-2 c = search rules
@@ -41,10 +41,10 @@ loop-less : tie.Need-loop-smaller invariant-loop decreases-loop
 loop-less c = search rules
 
 loop-again : tie.Need-loop-preserved invariant-loop decreases-loop
-loop-again c = filling-more _ _ _ _ _ c.before.loop-test.true c.value.ensures c.before.before.loop.invariant
+loop-again c = filling_more _ _ _ _ _ c.before.loop-test.true c.value.ensures c.before.before.loop.invariant
 
 returns : tie.Need-returns invariant-loop decreases-loop
-returns c = filling-all _ _ _ _ c.loop-test.false c.before.loop.invariant
+returns c = filling_all _ _ _ _ c.loop-test.false c.before.loop.invariant
 
 pub times-spec : {M : Type 1} → statement M
 times-spec =
@@ -53,8 +53,8 @@ times-spec =
     invariant-loop
     decreases-loop
     loop-holds
-    mul-value
-    add-value
+    mul_value
+    add_value
     add-value-2
     value-requires
     mul-all

@@ -18,8 +18,8 @@ add-word32-2 c = search rules
 word32-requires-2 : tie.Need-word32-requires-2
 word32-requires-2 c κs = search rules
 
-add-value : tie.Need-overflow-add-value
-add-value c = search rules
+add_value : tie.Need-overflow-add-value
+add_value c = search rules
 
 value-requires : tie.Need-value-requires
 value-requires c κs = search rules
@@ -41,7 +41,7 @@ timing-spec =
     word32-requires
     add-word32-2
     word32-requires-2
-    add-value
+    add_value
     value-requires
     returns
     returns-2)

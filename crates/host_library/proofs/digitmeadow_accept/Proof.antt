@@ -46,17 +46,17 @@ use Rattle.terms.proofs.SeqNo.TheLaws as Q'
 use Rattle.receiver_state.specs.declared.Receiver.{Receiver}
 use Rattle.terms.specs.declared.Answer.{Answer}
 use Rattle.terms.specs.Answers.{said}
-use Rattle.receiver_calls.specs.Accept.{acceptOf}
+use Rattle.receiver_calls.specs.Accept.{accept_of}
 use Rattle.receiver_state.specs.contracts.Receiver as T
 use Rattle.terms.specs.contracts.Answer as N
 use Rattle.terms.proofs.Answer.TheLaws as N'
-use Rattle.receiver_in_place.specs.Behind.{acceptedBehind}
+use Rattle.receiver_in_place.specs.Behind.{accepted_behind}
 use Rattle.receiver_in_place.specs.contracts.accept_lent as core
 use Rattle.receiver_in_place.proofs.accept_lent.Symbol as core-def
 use Rattle.receiver_in_place.proofs.accept_lent.Symbol.{name as #receiver-in-place·accept-lent}
 use Rattle.receiver_in_place.proofs.accept_lent.Met as core-thm
-use Rattle.host_numbers.specs.Numbers.{inNumbers, forHost, with_number}
-use Rattle.host_library.proofs.Answers.{in-numbers}
+use Rattle.host_numbers.specs.Numbers.{in_numbers, for_host, with_number}
+use Rattle.host_library.proofs.Answers.{in_numbers_lem}
 use Rattle.host_numbers.specs.contracts.of_answer as told
 use Rattle.host_numbers.proofs.of_answer.Symbol as told-def
 use Rattle.host_numbers.proofs.of_answer.Symbol.{name as #host-numbers·of-answer}
@@ -112,29 +112,29 @@ module _ {M : Type 1} {𝓤 : Ura M} (𝓛 : Logic 𝓤) (at_mem : Memory → SP
   abbrev at_in : List Val × (List Val × (List Val × (List Val × Unit {0})))
   at_in = at
 
-  abbrev to-core : (Core 𝓛 at_mem run).Ghost
-  to-core = (((κ, (κ', (κ'', tt))), (q, (q', (q'', tt))), tt, to_in, at_in), tt)
+  abbrev to_core : (Core 𝓛 at_mem run).Ghost
+  to_core = (((κ, (κ', (κ'', tt))), (q, (q', (q'', tt))), tt, to_in, at_in), tt)
 
-  goes-core : ent 𝓤 (sep 𝓤 (sep 𝓤 (A.lft κ q) (sep 𝓤 (A.lft κ' q') (sep 𝓤 (A.lft κ'' q'') (sem 𝓛 ftrue)))) (sem 𝓛 (owns (MutRef (named 0) κ T.the_row ∷ Q.the_row ∷ ShrSlice (named 1) κ' u8 ∷ MutSlice (named 2) κ'' u8 ∷ []) to_in at_in))) ((Core 𝓛 at_mem run).pre to-core)
-  goes-core = qed 𝓛 (((‵ (flft κ q) ⊛ ‵ (flft κ' q') ⊛ ‵ (flft κ'' q'') ⊛ ‵ ftrue) ⊛ ‵ (owns (MutRef (named 0) κ T.the_row ∷ Q.the_row ∷ ShrSlice (named 1) κ' u8 ∷ MutSlice (named 2) κ'' u8 ∷ []) to_in at_in)) ∷ []) ∵ frame ! $ done !
+  goes_core : ent 𝓤 (sep 𝓤 (sep 𝓤 (A.lft κ q) (sep 𝓤 (A.lft κ' q') (sep 𝓤 (A.lft κ'' q'') (sem 𝓛 ftrue)))) (sem 𝓛 (owns (MutRef (named 0) κ T.the_row ∷ Q.the_row ∷ ShrSlice (named 1) κ' u8 ∷ MutSlice (named 2) κ'' u8 ∷ []) to_in at_in))) ((Core 𝓛 at_mem run).pre to_core)
+  goes_core = qed 𝓛 (((‵ (flft κ q) ⊛ ‵ (flft κ' q') ⊛ ‵ (flft κ'' q'') ⊛ ‵ ftrue) ⊛ ‵ (owns (MutRef (named 0) κ T.the_row ∷ Q.the_row ∷ ShrSlice (named 1) κ' u8 ∷ MutSlice (named 2) κ'' u8 ∷ []) to_in at_in)) ∷ []) ∵ frame ! $ done !
 
   abbrev Said : Answer → Receiver → List ℕ → Type 0
-  Said a st zs = acceptedBehind a st zs ≡ acceptOf h number payload.now store.now
+  Said a st zs = accepted_behind a st zs ≡ accept_of h number payload.now store.now
 
   -- what the second callee needs, and what it says
   abbrev to-told : Answer → (Told 𝓛 at_mem run).Ghost
   to-told a = ((tt, tt, tt, (a, tt), (EL.vals N.the_type N'.the_laws a, tt)), tt)
 
-  goes-told : (a : Answer) → Is N.the_row a (EL.vals N.the_type N'.the_laws a) → ent 𝓤 (sem 𝓛 ftrue) ((Told 𝓛 at_mem run).pre (to-told a))
-  goes-told a is = qed 𝓛 (‵ ftrue ∷ []) ∵ nothing ! $ owned ! N.the_row (Is N.the_row) (EL.makes N.the_type N'.the_plain 𝓛) a _ is $ fjoin ! $ move ! (1 ∷ 0 ∷ []) $ join ! $ frame ! $ done !
+  goes_told : (a : Answer) → Is N.the_row a (EL.vals N.the_type N'.the_laws a) → ent 𝓤 (sem 𝓛 ftrue) ((Told 𝓛 at_mem run).pre (to-told a))
+  goes_told a is = qed 𝓛 (‵ ftrue ∷ []) ∵ nothing ! $ owned ! N.the_row (Is N.the_row) (EL.makes N.the_type N'.the_plain 𝓛) a _ is $ fjoin ! $ move ! (1 ∷ 0 ∷ []) $ join ! $ frame ! $ done !
 
-  told_of : (a : Answer) (c : ℕ) → ent 𝓤 (ensured 𝓛 told.ended (told.clauses 𝓛 at_mem run) tt (a, tt) tt c) (fact 𝓤 (c ≡ (inNumbers (said a)).refusal))
-  told_of a c = ex_e 𝓤 _ (λ ws. snd∗ 𝓤 (sem 𝓛 (lasts told.ended tt (a, tt) ws)) (fact 𝓤 (c ≡ (inNumbers (said a)).refusal)))
+  told_of : (a : Answer) (c : ℕ) → ent 𝓤 (ensured 𝓛 told.ended (told.clauses 𝓛 at_mem run) tt (a, tt) tt c) (fact 𝓤 (c ≡ (in_numbers (said a)).refusal))
+  told_of a c = ex_e 𝓤 _ (λ ws. snd∗ 𝓤 (sem 𝓛 (lasts told.ended tt (a, tt) ws)) (fact 𝓤 (c ≡ (in_numbers (said a)).refusal)))
 
-  says_so : (a : Answer) (c : ℕ) (st : Receiver) (zs : List ℕ) → Said a st zs → c ≡ (inNumbers (said a)).refusal → with_number c st zs ≡ forHost (acceptOf h number payload.now store.now)
-  says_so a c st zs e d = (λ k. record { answer = in-numbers a c d k; state = st; lent = zs }) ∙ ap forHost e
+  says_so : (a : Answer) (c : ℕ) (st : Receiver) (zs : List ℕ) → Said a st zs → c ≡ (in_numbers (said a)).refusal → with_number c st zs ≡ for_host (accept_of h number payload.now store.now)
+  says_so a c st zs e d = (λ k. record { answer = in_numbers_lem a c d k; state = st; lent = zs }) ∙ ap for_host e
 
-  exits : (a : Answer) (c : ℕ) (st : Receiver) (zs : List ℕ) → Said a st zs → c ≡ (inNumbers (said a)).refusal → length zs ≡ length store.now → c < 2 ^ 32
+  exits : (a : Answer) (c : ℕ) (st : Receiver) (zs : List ℕ) → Said a st zs → c ≡ (in_numbers (said a)).refusal → length zs ≡ length store.now → c < 2 ^ 32
       → ent 𝓤 (⋆ 𝓛 ((‵ (flft κ q) ⊛ ‵ (flft κ' q') ⊛ ‵ (flft κ'' q'') ⊛ ‵ ftrue) ∷ ‵ (finally u8 store.name zs) ∷ ‵ (fres γ ((T.the_row).coded.code st)) ∷ [])) (Post (vint w32 c))
   exits a c st zs e d l fits =
       qed 𝓛 ((‵ (flft κ q) ⊛ ‵ (flft κ' q') ⊛ ‵ (flft κ'' q'') ⊛ ‵ ftrue) ∷ ‵ (finally u8 store.name zs) ∷ ‵ (fres γ ((T.the_row).coded.code st)) ∷ []) ∵
@@ -152,8 +152,8 @@ module _ {M : Type 1} {𝓤 : Ura M} (𝓛 : Logic 𝓤) (at_mem : Memory → SP
         assigns ! (addr ! (from ! (fld ! refl (hop ! (look_in ! 8 (sub ! 0 refl (whole !))) (stop !))))) (from ! (stop !)) (init ! 2 refl (tt, tt)) $
         assigns ! (agg ! (and_then ! (load ! (from ! (stop !)) (look ! 2 refl)) (and_then ! (load ! (from ! (fld ! refl (stop !))) (look_in ! 8 (sub ! 1 refl (whole !)))) (no_more !)))) (from ! (stop !)) (init ! 0 refl (tt, (tt, (record { fits = store-room.0 }, tt)))) $
         -- the first call
-        move ! (18 ∷ 19 ∷ []) $ join ! $ use1 𝓛 (raw ((Core 𝓛 at_mem run).pre to-core)) goes-core $
-        calls_at ! fm (Core 𝓛 at_mem run) known0 to-core (and_then ! (load ! (from ! (stop !)) (look ! 5 refl)) (and_then ! (load ! (from ! (stop !)) (look ! 13 refl)) (and_then ! (load ! (from ! (stop !)) (look ! 11 refl)) (and_then ! (load ! (from ! (stop !)) (look ! 1 refl)) (no_more !))))) (λ w.
+        move ! (18 ∷ 19 ∷ []) $ join ! $ use1 𝓛 (raw ((Core 𝓛 at_mem run).pre to_core)) goes_core $
+        calls_at ! fm (Core 𝓛 at_mem run) known0 to_core (and_then ! (load ! (from ! (stop !)) (look ! 5 refl)) (and_then ! (load ! (from ! (stop !)) (look ! 13 refl)) (and_then ! (load ! (from ! (stop !)) (look ! 11 refl)) (and_then ! (load ! (from ! (stop !)) (look ! 1 refl)) (no_more !))))) (λ w.
         use1 𝓛 (later (some (λ (a : Answer). ((‵ (flft κ q) ⊛ ‵ (flft κ' q') ⊛ ‵ (flft κ'' q'') ⊛ ‵ ftrue) ⊛ ‵ ((N.the_row).own_val a (w ∷ []))) ⊛ raw (ensured 𝓛 core.ended (core.clauses 𝓛 at_mem run) (κ, (κ', (κ'', tt))) to_in tt a)))) (id⊢ 𝓤 _) $ await ! tt $ pick ! (λ a.
         split ! $ move ! (1 ∷ []) $ use1 𝓛 (some (λ (ws : Receiver × (Unit {0} × (Unit {0} × (List ℕ × Unit {0})))). ‵ (lasts core.ended (κ, (κ', (κ'', tt))) to_in ws) ⊛ raw (fact 𝓤 (Said a ws.0 ws.1.1.1.0)))) (id⊢ 𝓤 _) $ pick ! (λ ws.
         split ! $ move ! (1 ∷ []) $ heard ! (Said a ws.0 ws.1.1.1.0) (λ e. fsplit ! $ move ! (1 ∷ []) $ fsplit ! $ drop ! $ fsplit ! $ drop ! $ fsplit ! $ fsplit ! $ move ! (1 ∷ []) $ feq_l ! (λ l.
@@ -161,10 +161,10 @@ module _ {M : Type 1} {𝓤 : Ura M} (𝓛 : Logic 𝓤) (at_mem : Memory → SP
         move ! (3 ∷ []) $ split ! $ move ! (1 ∷ []) $ peeks ! N.the_row (Is N.the_row) (shows 𝓛 N.the_row) a (w ∷ []) (λ is.
         land ! (from ! (stop !)) (init ! 11 refl ((EL.lawful N.the_type N'.the_laws 𝓛 tt).typed a _ is).0) $ rewrite ! 11 (λ (v : Val). ‵ (fat full_share N'.mir l₅ 0 v)) (ap only (EL.tells N.the_type N'.the_laws a _ is)) refl $
         -- the second call: [what the answer owns; the tokens; the last bytes; true; the last state; _8; …]
-        drop ! $ nothing ! $ use1 𝓛 (raw ((Told 𝓛 at_mem run).pre (to-told a))) (goes-told a (EL.owes N.the_type N'.the_laws a (EL.owed N.the_type N'.the_laws a _ is))) $
+        drop ! $ nothing ! $ use1 𝓛 (raw ((Told 𝓛 at_mem run).pre (to-told a))) (goes_told a (EL.owes N.the_type N'.the_laws a (EL.owed N.the_type N'.the_laws a _ is))) $
         calls_at ! fm (Told 𝓛 at_mem run) known1 (to-told a) (and_then ! (load ! (from ! (stop !)) (look ! 11 refl)) (no_more !)) (λ w'.
         use1 𝓛 (later (some (λ (c : ℕ). (‵ ftrue ⊛ ‵ (u32.own_val c (w' ∷ []))) ⊛ raw (ensured 𝓛 told.ended (told.clauses 𝓛 at_mem run) tt (a, tt) tt c)))) (id⊢ 𝓤 _) $ await ! tt $ pick ! (λ c.
-        split ! $ move ! (1 ∷ []) $ use1 𝓛 (raw (fact 𝓤 (c ≡ (inNumbers (said a)).refusal))) (told_of a c) $ heard ! (c ≡ (inNumbers (said a)).refusal) (λ d. split ! $ drop ! $ peeks ! u32 (Is u32) (shows 𝓛 u32) c (w' ∷ []) (λ is'.
+        split ! $ move ! (1 ∷ []) $ use1 𝓛 (raw (fact 𝓤 (c ≡ (in_numbers (said a)).refusal))) (told_of a c) $ heard ! (c ≡ (in_numbers (said a)).refusal) (λ d. split ! $ drop ! $ peeks ! u32 (Is u32) (shows 𝓛 u32) c (w' ∷ []) (λ is'.
         land ! (from ! (stop !)) (init ! 21 refl ((uint_Lawful 𝓛 w32).typed c _ is').0) $ rewrite ! 21 (λ (v : Val). ‵ (fat full_share (ty_int w32) l₀ 0 v)) (ap only is'.0) refl $ drop ! $
         returns ! (look ! 20 refl) $ forget ! 4 refl $ forget ! 6 refl $ forget ! 8 refl $ forget ! 10 refl $ forget ! 12 refl $ forget ! 14 refl $ forget ! 16 refl $ forget ! 18 refl $ forget ! 20 refl $
         move ! (20 ∷ 21 ∷ []) $ free1 ! $ move ! (18 ∷ 19 ∷ []) $ free1 ! $ move ! (16 ∷ 17 ∷ []) $ free1 ! $ move ! (14 ∷ 15 ∷ []) $ free1 ! $ move ! (12 ∷ 13 ∷ []) $ free1 ! $ move ! (10 ∷ 11 ∷ []) $ free1 ! $ move ! (8 ∷ 9 ∷ []) $ free1 ! $ move ! (6 ∷ 7 ∷ []) $ free1 ! $ move ! (4 ∷ 5 ∷ []) $ free1 ! $ free0 ! $
@@ -173,8 +173,8 @@ module _ {M : Type 1} {𝓤 : Ura M} (𝓛 : Logic 𝓤) (at_mem : Memory → SP
 module _ {M : Type 1} {𝓤 : Ura M} (𝓛 : Logic 𝓤) (mem : Memory → SProp 𝓤) (run : Routine → Fun 𝓤) where
   open 𝓛 use {H}
 
-  f-walks : (C : Calls 𝓤 H) (Λ : Loops 𝓤 H) → FmC 𝓤 H 𝓛.laws C → Triple 𝓤 (C #receiver-in-place·accept-lent) (Core 𝓛 mem run) → Triple 𝓤 (C #host-numbers·of-answer) (Told 𝓛 mem run) → Walks 𝓛 f.ended stayed (WpFn 𝓤 H C Λ code.function) (f.clauses 𝓛 mem run)
-  f-walks C Λ fm known0 known1 = walked 𝓛 f.ended stayed (f.clauses 𝓛 mem run) (WpFn 𝓤 H C Λ code.function) (λ κs. (shr_vals, (LL.vals Q.the_type Q'.the_laws, (shr_slice_vals, (shr_slice_vals, tt)))))
+  f_walks : (C : Calls 𝓤 H) (Λ : Loops 𝓤 H) → FmC 𝓤 H 𝓛.laws C → Triple 𝓤 (C #receiver-in-place·accept-lent) (Core 𝓛 mem run) → Triple 𝓤 (C #host-numbers·of-answer) (Told 𝓛 mem run) → Walks 𝓛 f.ended stayed (WpFn 𝓤 H C Λ code.function) (f.clauses 𝓛 mem run)
+  f_walks C Λ fm known0 known1 = walked 𝓛 f.ended stayed (f.clauses 𝓛 mem run) (WpFn 𝓤 H C Λ code.function) (λ κs. (shr_vals, (LL.vals Q.the_type Q'.the_laws, (shr_slice_vals, (shr_slice_vals, tt)))))
       (λ κs. (mut_Tells (named 0) κs.0 T.the_row, (LL.tells Q.the_type Q'.the_laws, (shr_slice_Tells (named 1) κs.1.0 u8, (mut_slice_Tells (named 2) κs.1.1.0 u8, tt)))))
       (λ κs qs bounds a g are. via 𝓤 _ (fst∗ 𝓤 _ (emp 𝓤)) (walk 𝓛 mem run κs.0 κs.1.0 κs.1.1.0 bounds qs.0 qs.1.0 qs.1.1.0 a.0.ref_ptr.0 a.0.ref_ptr.1 a.0.ghost_name a.0.now a.1.0 a.1.1.0 a.1.1.1.0 are.1.0 are.1.1.0.0.1 are.1.1.1.0.0.1 C Λ fm known0 known1))
 
@@ -182,7 +182,7 @@ f_meets : {M : Type 1} {𝓤 : Ura M} (𝓛 : Logic 𝓤) → (mem : Memory → 
     → Meets 𝓛 f.signature (WpFn 𝓤 𝓛.H 𝓣.C 𝓣.Λ code.function) (f.spec 𝓛 mem run)
 f_meets {𝓤 = 𝓤} 𝓛 mem run 𝓣 known0 known1 =
     walk_Meets 𝓛 f.ended stayed (Goes-gave_ref 𝓛 3 0 tt (plain (λ _. T.the_row)), (Goes-dropped 𝓛 3 (plain (λ _. Q.the_row)) yes (λ κs x f. refl), (Goes-dropped 𝓛 3 (shr_slice_of (1 ∷ []) tt (plain (λ _. u8))) yes (λ κs x f. refl), (Goes-gave_slice 𝓛 3 2 tt (plain (λ _. u8)), tt)))) (f.clauses 𝓛 mem run)
-    (WpFn 𝓤 𝓛.H 𝓣.C 𝓣.Λ code.function) (WpFn-mono 𝓤 𝓛.H 𝓛.laws 𝓣 code.function) (f-walks 𝓛 mem run 𝓣.C 𝓣.Λ (fm_of 𝓤 𝓛.H 𝓛.laws 𝓣) known0 known1)
+    (WpFn 𝓤 𝓛.H 𝓣.C 𝓣.Λ code.function) (WpFn-mono 𝓤 𝓛.H 𝓛.laws 𝓣 code.function) (f_walks 𝓛 mem run 𝓣.C 𝓣.Λ (fm_of 𝓤 𝓛.H 𝓛.laws 𝓣) known0 known1)
 
 pub digitmeadow-accept-spec : {M : Type 1} → stated.statement M
 unfolding code.routine tables_of

@@ -43,12 +43,12 @@ use Rattle.terms.specs.declared.StreamId.{StreamId}
 use Rattle.terms.specs.contracts.StreamId as I
 use Rattle.terms.proofs.StreamId.TheLaws as I'
 use Rattle.receiver_state.specs.declared.Receiver.{Receiver}
-use Rattle.receiver_ack.specs.Acknowledge.{acknowledgeOf}
+use Rattle.receiver_ack.specs.Acknowledge.{acknowledge_of}
 use Rattle.receiver_state.specs.contracts.Receiver as T
 use Rattle.receiver_state.proofs.Receiver.TheLaws as T'
 use Rattle.receiver_in_place.proofs.State.{vals}
 use Rattle.host_numbers.specs.declared.Counted.{Counted}
-use Rattle.host_numbers.specs.Numbers.{ackForHost, withOutput}
+use Rattle.host_numbers.specs.Numbers.{ack_for_host, with_output}
 use Rattle.host_numbers.specs.contracts.Counted as K
 use Rattle.host_numbers.proofs.Counted.TheLaws as K'
 use Rattle.host_numbers.specs.contracts.acknowledgement as core
@@ -68,7 +68,7 @@ abbrev Core : {M : Type 1} {𝓤 : Ura M} (𝓛 : Logic 𝓤) (mem : Memory → 
 Core 𝓛 mem run = triple_of 𝓛 core.signature (core.spec 𝓛 mem run)
 
 module _ {M : Type 1} {𝓤 : Ura M} (𝓛 : Logic 𝓤) (at_mem : Memory → SProp 𝓤) (run : Routine → Fun 𝓤) (κ κ' : Lft) (bounds : AllOutlive 2 (f.signature).outlives (κ, (κ', tt))) (q q' : Share)
-    (b o : ℕ) (γ : GName) (h : Receiver) (send recv : StreamId) (output : MutBor (List ℕ)) (send-is : Is I.the_row send (LL.vals I.the_type I'.the_laws send)) (recv-is : Is I.the_row recv (LL.vals I.the_type I'.the_laws recv)) (output-room : Room u8 (length output.now)) where
+    (b o : ℕ) (γ : GName) (h : Receiver) (send recv : StreamId) (output : MutBor (List ℕ)) (send-is : Is I.the_row send (LL.vals I.the_type I'.the_laws send)) (recv_is : Is I.the_row recv (LL.vals I.the_type I'.the_laws recv)) (output-room : Room u8 (length output.now)) where
   open 𝓛 use {H, A}
 
   abbrev Arg : Type 0
@@ -94,14 +94,14 @@ module _ {M : Type 1} {𝓤 : Ura M} (𝓛 : Logic 𝓤) (at_mem : Memory → SP
   abbrev at_in : List Val × (List Val × (List Val × (List Val × Unit {0})))
   at_in = (vals h, (LL.val I.the_type I'.the_laws send ∷ [], (LL.val I.the_type I'.the_laws recv ∷ [], (m ∷ [], tt))))
 
-  abbrev to-core : (Core 𝓛 at_mem run).Ghost
-  to-core = (((κ', tt), (q', tt), tt, to_in, at_in), tt)
+  abbrev to_core : (Core 𝓛 at_mem run).Ghost
+  to_core = (((κ', tt), (q', tt), tt, to_in, at_in), tt)
 
-  goes-core : ent 𝓤 (sep 𝓤 (sep 𝓤 (A.lft κ' q') (sem 𝓛 ftrue)) (sem 𝓛 (owns (T.the_row ∷ I.the_row ∷ I.the_row ∷ MutSlice (named 0) κ' u8 ∷ []) to_in at_in))) ((Core 𝓛 at_mem run).pre to-core)
-  goes-core = qed 𝓛 (((‵ (flft κ' q') ⊛ ‵ ftrue) ⊛ ‵ (owns (T.the_row ∷ I.the_row ∷ I.the_row ∷ MutSlice (named 0) κ' u8 ∷ []) to_in at_in)) ∷ []) ∵ frame ! $ done !
+  goes_core : ent 𝓤 (sep 𝓤 (sep 𝓤 (A.lft κ' q') (sem 𝓛 ftrue)) (sem 𝓛 (owns (T.the_row ∷ I.the_row ∷ I.the_row ∷ MutSlice (named 0) κ' u8 ∷ []) to_in at_in))) ((Core 𝓛 at_mem run).pre to_core)
+  goes_core = qed 𝓛 (((‵ (flft κ' q') ⊛ ‵ ftrue) ⊛ ‵ (owns (T.the_row ∷ I.the_row ∷ I.the_row ∷ MutSlice (named 0) κ' u8 ∷ []) to_in at_in)) ∷ []) ∵ frame ! $ done !
 
   abbrev Said : Counted → List ℕ → Type 0
-  Said r zs = withOutput r zs ≡ ackForHost (acknowledgeOf h send recv output.now)
+  Said r zs = with_output r zs ≡ ack_for_host (acknowledge_of h send recv output.now)
 
   exits : (r : Counted) (zs : List ℕ) → Said r zs → length zs ≡ length output.now → Is K.the_row r (LL.vals K.the_type K'.the_laws r)
       → ent 𝓤 (⋆ 𝓛 (‵ (flft κ q) ∷ (‵ (flft κ' q') ⊛ ‵ ftrue) ∷ ‵ (finally u8 output.name zs) ∷ [])) (Post (LL.val K.the_type K'.the_laws r))
@@ -116,7 +116,7 @@ module _ {M : Type 1} {𝓤 : Ura M} (𝓛 : Logic 𝓤) (at_mem : Memory → SP
     walk =
         qed 𝓛 ((‵ (flft κ q) ⊛ ‵ (flft κ' q') ⊛ ‵ ftrue) ∷ ‵ (owns (ShrRef (named 0) κ T.the_row ∷ I.the_row ∷ I.the_row ∷ MutSlice (named 1) κ' u8 ∷ []) x at) ∷ []) ∵ enter ! C Λ code.function (vptr b o ∷ LL.val I.the_type I'.the_laws send ∷ LL.val I.the_type I'.the_laws recv ∷ m ∷ []) _ $
         alloc1 ! (λ l₀. alloc1 ! (λ l₁. alloc1 ! (λ l₂. alloc1 ! (λ l₃. alloc1 ! (λ l₄. alloc1 ! (λ l₅. alloc1 ! (λ l₆. alloc1 ! (λ l₇. alloc0 ! $ params1 ! $
-        pass1 ! (init ! 12 refl (tt, tt)) $ pass1 ! (init ! 10 refl ((LL.lawful I.the_type I'.the_laws 𝓛).typed send _ send-is).0) $ pass1 ! (init ! 8 refl ((LL.lawful I.the_type I'.the_laws 𝓛).typed recv _ recv-is).0) $ pass1 ! (init ! 6 refl (tt, (tt, (record { fits = output-room.0 }, tt)))) $ pass0 ! $
+        pass1 ! (init ! 12 refl (tt, tt)) $ pass1 ! (init ! 10 refl ((LL.lawful I.the_type I'.the_laws 𝓛).typed send _ send-is).0) $ pass1 ! (init ! 8 refl ((LL.lawful I.the_type I'.the_laws 𝓛).typed recv _ recv_is).0) $ pass1 ! (init ! 6 refl (tt, (tt, (record { fits = output-room.0 }, tt)))) $ pass0 ! $
         -- the borrow is looked into, the state is copied out, and the borrow is shut
         move ! (17 ∷ []) $ fsplit ! $ fsplit3 ! $ drop ! $ move ! (19 ∷ []) $ split ! $ move ! (3 ∷ 0 ∷ []) $
         looks ! tt T.the_row (Is T.the_row) (shows 𝓛 T.the_row) vals (LL.tells T.the_type T'.the_laws) (LL.copy T.the_type T'.the_copy 𝓛) h b o (λ t vs.
@@ -129,8 +129,8 @@ module _ {M : Type 1} {𝓤 : Ura M} (𝓛 : Logic 𝓤) (at_mem : Memory → SP
         assigns ! (addr ! (from ! (fld ! refl (hop ! (look_in ! 11 (sub ! 0 refl (whole !))) (stop !))))) (from ! (stop !)) (init ! 7 refl (tt, tt)) $
         assigns ! (agg ! (and_then ! (load ! (from ! (stop !)) (look ! 7 refl)) (and_then ! (load ! (from ! (fld ! refl (stop !))) (look_in ! 11 (sub ! 1 refl (whole !)))) (no_more !)))) (from ! (stop !)) (init ! 5 refl (tt, (tt, (record { fits = output-room.0 }, tt)))) $
         -- the call
-        move ! (4 ∷ []) $ owned ! T.the_row (Is T.the_row) (LL.makes T.the_type T'.the_plain 𝓛) h _ g $ fjoin ! $ move ! (3 ∷ 0 ∷ []) $ join ! $ use1 𝓛 (raw ((Core 𝓛 at_mem run).pre to-core)) goes-core $
-        calls_at ! fm (Core 𝓛 at_mem run) known to-core (and_then ! (load ! (from ! (stop !)) (look ! 8 refl)) (and_then ! (load ! (from ! (stop !)) (look ! 14 refl)) (and_then ! (load ! (from ! (stop !)) (look ! 12 refl)) (and_then ! (load ! (from ! (stop !)) (look ! 4 refl)) (no_more !))))) (λ w.
+        move ! (4 ∷ []) $ owned ! T.the_row (Is T.the_row) (LL.makes T.the_type T'.the_plain 𝓛) h _ g $ fjoin ! $ move ! (3 ∷ 0 ∷ []) $ join ! $ use1 𝓛 (raw ((Core 𝓛 at_mem run).pre to_core)) goes_core $
+        calls_at ! fm (Core 𝓛 at_mem run) known to_core (and_then ! (load ! (from ! (stop !)) (look ! 8 refl)) (and_then ! (load ! (from ! (stop !)) (look ! 14 refl)) (and_then ! (load ! (from ! (stop !)) (look ! 12 refl)) (and_then ! (load ! (from ! (stop !)) (look ! 4 refl)) (no_more !))))) (λ w.
         use1 𝓛 (later (some (λ (r : Counted). ((‵ (flft κ' q') ⊛ ‵ ftrue) ⊛ ‵ ((K.the_row).own_val r (w ∷ []))) ⊛ raw (ensured 𝓛 core.ended (core.clauses 𝓛 at_mem run) (κ', tt) to_in tt r)))) (id⊢ 𝓤 _) $ await ! tt $ pick ! (λ r.
         split ! $ move ! (1 ∷ []) $ use1 𝓛 (some (λ (ws : Unit {0} × (Unit {0} × (Unit {0} × (List ℕ × Unit {0})))). ‵ (lasts core.ended (κ', tt) to_in ws) ⊛ raw (fact 𝓤 (Said r ws.1.1.1.0)))) (id⊢ 𝓤 _) $ pick ! (λ ws.
         split ! $ move ! (1 ∷ []) $ heard ! (Said r ws.1.1.1.0) (λ e. fsplit ! $ drop ! $ fsplit ! $ drop ! $ fsplit ! $ drop ! $ fsplit ! $ fsplit ! $ move ! (1 ∷ []) $ feq_l ! (λ l.
@@ -145,8 +145,8 @@ module _ {M : Type 1} {𝓤 : Ura M} (𝓛 : Logic 𝓤) (at_mem : Memory → SP
 module _ {M : Type 1} {𝓤 : Ura M} (𝓛 : Logic 𝓤) (mem : Memory → SProp 𝓤) (run : Routine → Fun 𝓤) where
   open 𝓛 use {H}
 
-  f-walks : (C : Calls 𝓤 H) (Λ : Loops 𝓤 H) → FmC 𝓤 H 𝓛.laws C → Triple 𝓤 (C #host-numbers·acknowledgement) (Core 𝓛 mem run) → Walks 𝓛 f.ended stayed (WpFn 𝓤 H C Λ code.function) (f.clauses 𝓛 mem run)
-  f-walks C Λ fm known = walked 𝓛 f.ended stayed (f.clauses 𝓛 mem run) (WpFn 𝓤 H C Λ code.function) (λ κs. (shr_vals, (LL.vals I.the_type I'.the_laws, (LL.vals I.the_type I'.the_laws, (shr_slice_vals, tt)))))
+  f_walks : (C : Calls 𝓤 H) (Λ : Loops 𝓤 H) → FmC 𝓤 H 𝓛.laws C → Triple 𝓤 (C #host-numbers·acknowledgement) (Core 𝓛 mem run) → Walks 𝓛 f.ended stayed (WpFn 𝓤 H C Λ code.function) (f.clauses 𝓛 mem run)
+  f_walks C Λ fm known = walked 𝓛 f.ended stayed (f.clauses 𝓛 mem run) (WpFn 𝓤 H C Λ code.function) (λ κs. (shr_vals, (LL.vals I.the_type I'.the_laws, (LL.vals I.the_type I'.the_laws, (shr_slice_vals, tt)))))
       (λ κs. (shr_Tells (named 0) κs.0 T.the_row, (LL.tells I.the_type I'.the_laws, (LL.tells I.the_type I'.the_laws, (mut_slice_Tells (named 1) κs.1.0 u8, tt)))))
       (λ κs qs bounds a g are. via 𝓤 _ (fst∗ 𝓤 _ (emp 𝓤)) (walk 𝓛 mem run κs.0 κs.1.0 bounds qs.0 qs.1.0 a.0.ref_ptr.0 a.0.ref_ptr.1 a.0.ghost_name a.0.now a.1.0 a.1.1.0 a.1.1.1.0 are.1.0 are.1.1.0 are.1.1.1.0.0.1 C Λ fm known))
 
@@ -154,7 +154,7 @@ f_meets : {M : Type 1} {𝓤 : Ura M} (𝓛 : Logic 𝓤) → (mem : Memory → 
     → Meets 𝓛 f.signature (WpFn 𝓤 𝓛.H 𝓣.C 𝓣.Λ code.function) (f.spec 𝓛 mem run)
 f_meets {𝓤 = 𝓤} 𝓛 mem run 𝓣 known =
     walk_Meets 𝓛 f.ended stayed (Goes-dropped 𝓛 2 (shr_ref_to (0 ∷ []) tt (plain (λ _. T.the_row))) yes (λ κs x f. refl), (Goes-dropped 𝓛 2 (plain (λ _. I.the_row)) yes (λ κs x f. refl), (Goes-dropped 𝓛 2 (plain (λ _. I.the_row)) yes (λ κs x f. refl), (Goes-gave_slice 𝓛 2 1 tt (plain (λ _. u8)), tt)))) (f.clauses 𝓛 mem run)
-    (WpFn 𝓤 𝓛.H 𝓣.C 𝓣.Λ code.function) (WpFn-mono 𝓤 𝓛.H 𝓛.laws 𝓣 code.function) (f-walks 𝓛 mem run 𝓣.C 𝓣.Λ (fm_of 𝓤 𝓛.H 𝓛.laws 𝓣) known)
+    (WpFn 𝓤 𝓛.H 𝓣.C 𝓣.Λ code.function) (WpFn-mono 𝓤 𝓛.H 𝓛.laws 𝓣 code.function) (f_walks 𝓛 mem run 𝓣.C 𝓣.Λ (fm_of 𝓤 𝓛.H 𝓛.laws 𝓣) known)
 
 pub digitmeadow-acknowledge-spec : {M : Type 1} → stated.statement M
 unfolding code.routine tables_of

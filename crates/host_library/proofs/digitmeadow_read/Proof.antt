@@ -2,8 +2,8 @@
 use Prim.Native.Nat.{ℕ}
 use mathlib.Core.Path.{sym, ◌∙◌, ap}
 use Rattle.terms.specs.Answers.{refusal}
-use Rattle.packet_read.specs.Reading.{saidReading}
-use Rattle.host_numbers.specs.Fields.{hostedRead}
+use Rattle.packet_read.specs.Reading.{said_reading}
+use Rattle.host_numbers.specs.Fields.{hosted_read}
 use borrow.Author.Rules.{rules}
 use Rattle.host_library.proofs.digitmeadow_read.Statement.{statement}
 use Rattle.host_library.proofs.digitmeadow_read.Tie as tie
@@ -29,13 +29,13 @@ of-refusal-requires c κs = search rules
 returns : tie.Need-returns
 returns c =
     let r = c.before.before.before.before in
-    c.of-packet.ensures ∙ ap hostedRead (sym (ap saidReading c.before.before.p.given.1) ∙ r.read.ensures)
+    c.of-packet.ensures ∙ ap hosted_read (sym (ap said_reading c.before.before.p.given.1) ∙ r.read.ensures)
 
 returns-2 : tie.Need-returns-2
 returns-2 c =
     let r = c.before.before.before.before.before in
-    c.of-refusal.ensures ∙ ap (λ (n : ℕ). hostedRead (refusal n)) c.before.number.ensures
-    ∙ ap hostedRead (sym (ap saidReading c.before.before.before.why.given.1) ∙ r.read.ensures)
+    c.of-refusal.ensures ∙ ap (λ (n : ℕ). hosted_read (refusal n)) c.before.number.ensures
+    ∙ ap hosted_read (sym (ap said_reading c.before.before.before.why.given.1) ∙ r.read.ensures)
 
 pub digitmeadow-read-spec : {M : Type 1} → statement M
 digitmeadow-read-spec =

@@ -50,7 +50,7 @@ use Rattle.receiver_state.specs.contracts.Receiver as T
 use Rattle.receiver_state.proofs.Receiver.TheLaws as T'
 use Rattle.receiver_in_place.proofs.State.{vals}
 use Rattle.host_numbers.specs.declared.Begun.{Begun}
-use Rattle.host_numbers.specs.Numbers.{startForHost, with_number}
+use Rattle.host_numbers.specs.Numbers.{start_for_host, with_number}
 use Rattle.host_numbers.specs.contracts.Begun as P
 use Rattle.host_numbers.proofs.Begun.TheLaws as P'
 use Rattle.host_numbers.specs.contracts.begin as core
@@ -93,21 +93,21 @@ module _ {M : Type 1} {𝓤 : Ura M} (𝓛 : Logic 𝓤) (at_mem : Memory → SP
   abbrev given : Receiver × (SeqNo × (ℕ × (Bor (List ℕ) × Unit {0})))
   given = (h, (s, (slot, (store, tt))))
 
-  abbrev at-given : List Val × (List Val × (List Val × (List Val × Unit {0})))
-  at-given = (vals h, (LL.val Q.the_type Q'.the_laws s ∷ [], (vint w32 slot ∷ [], (m ∷ [], tt))))
+  abbrev at_given : List Val × (List Val × (List Val × (List Val × Unit {0})))
+  at_given = (vals h, (LL.val Q.the_type Q'.the_laws s ∷ [], (vint w32 slot ∷ [], (m ∷ [], tt))))
 
-  abbrev to-core : (Core 𝓛 at_mem run).Ghost
-  to-core = (((κ', tt), (q', tt), tt, given, at-given), tt)
+  abbrev to_core : (Core 𝓛 at_mem run).Ghost
+  to_core = (((κ', tt), (q', tt), tt, given, at_given), tt)
 
-  goes-core : ent 𝓤 (sep 𝓤 (sep 𝓤 (A.lft κ' q') (sem 𝓛 ftrue)) (sem 𝓛 (owns (T.the_row ∷ Q.the_row ∷ u32 ∷ ShrSlice (named 0) κ' u8 ∷ []) given at-given))) ((Core 𝓛 at_mem run).pre to-core)
-  goes-core = qed 𝓛 (((‵ (flft κ' q') ⊛ ‵ ftrue) ⊛ ‵ (owns (T.the_row ∷ Q.the_row ∷ u32 ∷ ShrSlice (named 0) κ' u8 ∷ []) given at-given)) ∷ []) ∵ frame ! $ done !
+  goes_core : ent 𝓤 (sep 𝓤 (sep 𝓤 (A.lft κ' q') (sem 𝓛 ftrue)) (sem 𝓛 (owns (T.the_row ∷ Q.the_row ∷ u32 ∷ ShrSlice (named 0) κ' u8 ∷ []) given at_given))) ((Core 𝓛 at_mem run).pre to_core)
+  goes_core = qed 𝓛 (((‵ (flft κ' q') ⊛ ‵ ftrue) ⊛ ‵ (owns (T.the_row ∷ Q.the_row ∷ u32 ∷ ShrSlice (named 0) κ' u8 ∷ []) given at_given)) ∷ []) ∵ frame ! $ done !
 
   -- what it says
   abbrev Said : Begun → Type 0
-  Said r = with_number r.refusal r.state [] ≡ startForHost h (start_of s slot (length store.now))
+  Said r = with_number r.refusal r.state [] ≡ start_for_host h (start_of s slot (length store.now))
 
-  core-of : (r : Begun) → ent 𝓤 (ensured 𝓛 core.ended (core.clauses 𝓛 at_mem run) (κ', tt) given tt r) (fact 𝓤 (Said r))
-  core-of r = ex_e 𝓤 _ (λ ws. snd∗ 𝓤 (sem 𝓛 (lasts core.ended (κ', tt) given ws)) (fact 𝓤 (Said r)))
+  core_of : (r : Begun) → ent 𝓤 (ensured 𝓛 core.ended (core.clauses 𝓛 at_mem run) (κ', tt) given tt r) (fact 𝓤 (Said r))
+  core_of r = ex_e 𝓤 _ (λ ws. snd∗ 𝓤 (sem 𝓛 (lasts core.ended (κ', tt) given ws)) (fact 𝓤 (Said r)))
 
   -- of a `Begun` that is had: what its fields are
   state-is : (r : Begun) (v : Val) → Is P.the_row r (v ∷ []) → Is T.the_row r.state (vals r.state)
@@ -137,10 +137,10 @@ module _ {M : Type 1} {𝓤 : Ura M} (𝓛 : Logic 𝓤) (at_mem : Memory → SP
         -- [the state's cell; the open borrow; obs; auth; the store's token; what the numbers and the store own; _6; …; _1; …; room for _0; …]
         assigns ! (of_opd ! (load ! (from ! (hop ! (look ! 16 refl) (stop !))) (look_raw ! 0 refl))) (from ! (stop !)) (init ! 6 refl ((LL.lawful T.the_type T'.the_laws 𝓛).typed h _ g).0) $
         -- the call
-        move ! (5 ∷ []) $ owned ! T.the_row (Is T.the_row) (LL.makes T.the_type T'.the_plain 𝓛) h _ g $ fjoin ! $ move ! (5 ∷ 0 ∷ []) $ join ! $ use1 𝓛 (raw ((Core 𝓛 at_mem run).pre to-core)) goes-core $
-        calls_at ! fm (Core 𝓛 at_mem run) known to-core (and_then ! (load ! (from ! (stop !)) (look ! 5 refl)) (and_then ! (load ! (from ! (stop !)) (look ! 13 refl)) (and_then ! (load ! (from ! (stop !)) (look ! 11 refl)) (and_then ! (load ! (from ! (stop !)) (look ! 9 refl)) (no_more !))))) (λ w.
+        move ! (5 ∷ []) $ owned ! T.the_row (Is T.the_row) (LL.makes T.the_type T'.the_plain 𝓛) h _ g $ fjoin ! $ move ! (5 ∷ 0 ∷ []) $ join ! $ use1 𝓛 (raw ((Core 𝓛 at_mem run).pre to_core)) goes_core $
+        calls_at ! fm (Core 𝓛 at_mem run) known to_core (and_then ! (load ! (from ! (stop !)) (look ! 5 refl)) (and_then ! (load ! (from ! (stop !)) (look ! 13 refl)) (and_then ! (load ! (from ! (stop !)) (look ! 11 refl)) (and_then ! (load ! (from ! (stop !)) (look ! 9 refl)) (no_more !))))) (λ w.
         use1 𝓛 (later (some (λ (r : Begun). ((‵ (flft κ' q') ⊛ ‵ ftrue) ⊛ ‵ ((P.the_row).own_val r (w ∷ []))) ⊛ raw (ensured 𝓛 core.ended (core.clauses 𝓛 at_mem run) (κ', tt) given tt r)))) (id⊢ 𝓤 _) $ await ! tt $ pick ! (λ r.
-        split ! $ move ! (1 ∷ []) $ use1 𝓛 (raw (fact 𝓤 (Said r))) (core-of r) $ heard ! (Said r) (λ e. split ! $ move ! (1 ∷ []) $
+        split ! $ move ! (1 ∷ []) $ use1 𝓛 (raw (fact 𝓤 (Said r))) (core_of r) $ heard ! (Said r) (λ e. split ! $ move ! (1 ∷ []) $
         peeks ! P.the_row (Is P.the_row) (shows 𝓛 P.the_row) r (w ∷ []) (λ is.
         land ! (from ! (stop !)) (init ! 8 refl ((LL.lawful P.the_type P'.the_laws 𝓛).typed r _ is).0) $
         rewrite ! 8 (λ (v : Val). ‵ (fat full_share P'.mir l₅ 0 v)) (ap only (LL.tells P.the_type P'.the_laws r _ is)) refl $ drop ! $ move ! (1 ∷ 2 ∷ 3 ∷ 4 ∷ []) $
@@ -156,8 +156,8 @@ module _ {M : Type 1} {𝓤 : Ura M} (𝓛 : Logic 𝓤) (at_mem : Memory → SP
 module _ {M : Type 1} {𝓤 : Ura M} (𝓛 : Logic 𝓤) (mem : Memory → SProp 𝓤) (run : Routine → Fun 𝓤) where
   open 𝓛 use {H}
 
-  f-walks : (C : Calls 𝓤 H) (Λ : Loops 𝓤 H) → FmC 𝓤 H 𝓛.laws C → Triple 𝓤 (C #host-numbers·begin) (Core 𝓛 mem run) → Walks 𝓛 f.ended stayed (WpFn 𝓤 H C Λ code.function) (f.clauses 𝓛 mem run)
-  f-walks C Λ fm known = walked 𝓛 f.ended stayed (f.clauses 𝓛 mem run) (WpFn 𝓤 H C Λ code.function) (λ κs. (shr_vals, (LL.vals Q.the_type Q'.the_laws, (uint_vals w32, (shr_slice_vals, tt)))))
+  f_walks : (C : Calls 𝓤 H) (Λ : Loops 𝓤 H) → FmC 𝓤 H 𝓛.laws C → Triple 𝓤 (C #host-numbers·begin) (Core 𝓛 mem run) → Walks 𝓛 f.ended stayed (WpFn 𝓤 H C Λ code.function) (f.clauses 𝓛 mem run)
+  f_walks C Λ fm known = walked 𝓛 f.ended stayed (f.clauses 𝓛 mem run) (WpFn 𝓤 H C Λ code.function) (λ κs. (shr_vals, (LL.vals Q.the_type Q'.the_laws, (uint_vals w32, (shr_slice_vals, tt)))))
       (λ κs. (mut_Tells (named 0) κs.0 T.the_row, (LL.tells Q.the_type Q'.the_laws, (uint_Tells w32, (shr_slice_Tells (named 1) κs.1.0 u8, tt)))))
       (λ κs qs bounds a g are. via 𝓤 _ (fst∗ 𝓤 _ (emp 𝓤)) (walk 𝓛 mem run κs.0 κs.1.0 bounds qs.0 qs.1.0 a.0.ref_ptr.0 a.0.ref_ptr.1 a.0.ghost_name a.0.now a.1.0 a.1.1.0 a.1.1.1.0 are.1.0 are.1.1.0.1 are.1.1.1.0.0.1 C Λ fm known))
 
@@ -165,7 +165,7 @@ f_meets : {M : Type 1} {𝓤 : Ura M} (𝓛 : Logic 𝓤) → (mem : Memory → 
     → Meets 𝓛 f.signature (WpFn 𝓤 𝓛.H 𝓣.C 𝓣.Λ code.function) (f.spec 𝓛 mem run)
 f_meets {𝓤 = 𝓤} 𝓛 mem run 𝓣 known =
     walk_Meets 𝓛 f.ended stayed (Goes-ref 𝓛 2 0 tt (plain (λ _. T.the_row)), (Goes-dropped 𝓛 2 (plain (λ _. Q.the_row)) yes (λ κs x f. refl), (Goes-dropped 𝓛 2 (plain (λ _. u32)) yes (λ κs x f. refl), (Goes-dropped 𝓛 2 (shr_slice_of (1 ∷ []) tt (plain (λ _. u8))) yes (λ κs x f. refl), tt)))) (f.clauses 𝓛 mem run)
-    (WpFn 𝓤 𝓛.H 𝓣.C 𝓣.Λ code.function) (WpFn-mono 𝓤 𝓛.H 𝓛.laws 𝓣 code.function) (f-walks 𝓛 mem run 𝓣.C 𝓣.Λ (fm_of 𝓤 𝓛.H 𝓛.laws 𝓣) known)
+    (WpFn 𝓤 𝓛.H 𝓣.C 𝓣.Λ code.function) (WpFn-mono 𝓤 𝓛.H 𝓛.laws 𝓣 code.function) (f_walks 𝓛 mem run 𝓣.C 𝓣.Λ (fm_of 𝓤 𝓛.H 𝓛.laws 𝓣) known)
 
 pub digitmeadow-start-spec : {M : Type 1} → stated.statement M
 unfolding code.routine tables_of

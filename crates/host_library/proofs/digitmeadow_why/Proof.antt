@@ -39,12 +39,12 @@ use Rattle.terms.specs.declared.SeqNo.{SeqNo}
 use Rattle.terms.specs.contracts.SeqNo as Q
 use Rattle.terms.proofs.SeqNo.TheLaws as Q'
 use Rattle.receiver_state.specs.declared.Receiver.{Receiver}
-use Rattle.receiver_why.specs.Reasons.{whyOf}
+use Rattle.receiver_why.specs.Reasons.{why_of}
 use Rattle.receiver_state.specs.contracts.Receiver as T
 use Rattle.receiver_state.proofs.Receiver.TheLaws as T'
 use Rattle.receiver_in_place.proofs.State.{vals}
 use Rattle.host_numbers.specs.declared.Stand.{Stand}
-use Rattle.host_numbers.specs.Numbers.{standOf}
+use Rattle.host_numbers.specs.Numbers.{stand_of}
 use Rattle.host_numbers.specs.contracts.Stand as K
 use Rattle.host_numbers.proofs.Stand.TheLaws as K'
 use Rattle.host_numbers.specs.contracts.why as core
@@ -90,14 +90,14 @@ module _ {M : Type 1} {𝓤 : Ura M} (𝓛 : Logic 𝓤) (at_mem : Memory → SP
   abbrev at_in : List Val × (List Val × Unit {0})
   at_in = (vals h, (n ∷ [], tt))
 
-  abbrev to-core : (Core 𝓛 at_mem run).Ghost
-  to-core = ((tt, tt, tt, to_in, at_in), tt)
+  abbrev to_core : (Core 𝓛 at_mem run).Ghost
+  to_core = ((tt, tt, tt, to_in, at_in), tt)
 
-  goes-core : ent 𝓤 (sep 𝓤 (sem 𝓛 ftrue) (sem 𝓛 (owns (T.the_row ∷ Q.the_row ∷ []) to_in at_in))) ((Core 𝓛 at_mem run).pre to-core)
-  goes-core = qed 𝓛 ((‵ ftrue ⊛ ‵ (owns (T.the_row ∷ Q.the_row ∷ []) to_in at_in)) ∷ []) ∵ frame ! $ done !
+  goes_core : ent 𝓤 (sep 𝓤 (sem 𝓛 ftrue) (sem 𝓛 (owns (T.the_row ∷ Q.the_row ∷ []) to_in at_in))) ((Core 𝓛 at_mem run).pre to_core)
+  goes_core = qed 𝓛 ((‵ ftrue ⊛ ‵ (owns (T.the_row ∷ Q.the_row ∷ []) to_in at_in)) ∷ []) ∵ frame ! $ done !
 
   abbrev Said : Stand → Type 0
-  Said r = r ≡ standOf (whyOf h number)
+  Said r = r ≡ stand_of (why_of h number)
 
   told_of : (r : Stand) → ent 𝓤 (ensured 𝓛 core.ended (core.clauses 𝓛 at_mem run) tt to_in tt r) (fact 𝓤 (Said r))
   told_of r = ex_e 𝓤 _ (λ ws. snd∗ 𝓤 (sem 𝓛 (lasts core.ended tt to_in ws)) (fact 𝓤 (Said r)))
@@ -124,8 +124,8 @@ module _ {M : Type 1} {𝓤 : Ura M} (𝓛 : Logic 𝓤) (at_mem : Memory → SP
         assigns ! (of_opd ! (load ! (from ! (hop ! (look ! 10 refl) (stop !))) (look_raw ! 0 refl))) (from ! (stop !)) (init ! 6 refl ((LL.lawful T.the_type T'.the_laws 𝓛).typed h _ g).0) $
         shuts ! tt T.the_row t h (vals h) b o $
         -- the call: [the token; the borrow; true; res; what the number owns; _3; …]
-        move ! (3 ∷ []) $ owned ! T.the_row (Is T.the_row) (LL.makes T.the_type T'.the_plain 𝓛) h _ g $ fjoin ! $ move ! (3 ∷ 0 ∷ []) $ join ! $ use1 𝓛 (raw ((Core 𝓛 at_mem run).pre to-core)) goes-core $
-        calls_at ! fm (Core 𝓛 at_mem run) known to-core (and_then ! (load ! (from ! (stop !)) (look ! 3 refl)) (and_then ! (load ! (from ! (stop !)) (look ! 5 refl)) (no_more !))) (λ w.
+        move ! (3 ∷ []) $ owned ! T.the_row (Is T.the_row) (LL.makes T.the_type T'.the_plain 𝓛) h _ g $ fjoin ! $ move ! (3 ∷ 0 ∷ []) $ join ! $ use1 𝓛 (raw ((Core 𝓛 at_mem run).pre to_core)) goes_core $
+        calls_at ! fm (Core 𝓛 at_mem run) known to_core (and_then ! (load ! (from ! (stop !)) (look ! 3 refl)) (and_then ! (load ! (from ! (stop !)) (look ! 5 refl)) (no_more !))) (λ w.
         use1 𝓛 (later (some (λ (r : Stand). (‵ ftrue ⊛ ‵ ((K.the_row).own_val r (w ∷ []))) ⊛ raw (ensured 𝓛 core.ended (core.clauses 𝓛 at_mem run) tt to_in tt r)))) (id⊢ 𝓤 _) $ await ! tt $ pick ! (λ r.
         split ! $ move ! (1 ∷ []) $ use1 𝓛 (raw (fact 𝓤 (Said r))) (told_of r) $ heard ! (Said r) (λ e. split ! $ move ! (1 ∷ []) $ peeks ! K.the_row (Is K.the_row) (shows 𝓛 K.the_row) r (w ∷ []) (λ is.
         -- [what the result owns; true; the token; the borrow; res; _3; …]
@@ -138,8 +138,8 @@ module _ {M : Type 1} {𝓤 : Ura M} (𝓛 : Logic 𝓤) (at_mem : Memory → SP
 module _ {M : Type 1} {𝓤 : Ura M} (𝓛 : Logic 𝓤) (mem : Memory → SProp 𝓤) (run : Routine → Fun 𝓤) where
   open 𝓛 use {H}
 
-  f-walks : (C : Calls 𝓤 H) (Λ : Loops 𝓤 H) → FmC 𝓤 H 𝓛.laws C → Triple 𝓤 (C #host-numbers·why) (Core 𝓛 mem run) → Walks 𝓛 f.ended stayed (WpFn 𝓤 H C Λ code.function) (f.clauses 𝓛 mem run)
-  f-walks C Λ fm known = walked 𝓛 f.ended stayed (f.clauses 𝓛 mem run) (WpFn 𝓤 H C Λ code.function) (λ κs. (shr_vals, (LL.vals Q.the_type Q'.the_laws, tt)))
+  f_walks : (C : Calls 𝓤 H) (Λ : Loops 𝓤 H) → FmC 𝓤 H 𝓛.laws C → Triple 𝓤 (C #host-numbers·why) (Core 𝓛 mem run) → Walks 𝓛 f.ended stayed (WpFn 𝓤 H C Λ code.function) (f.clauses 𝓛 mem run)
+  f_walks C Λ fm known = walked 𝓛 f.ended stayed (f.clauses 𝓛 mem run) (WpFn 𝓤 H C Λ code.function) (λ κs. (shr_vals, (LL.vals Q.the_type Q'.the_laws, tt)))
       (λ κs. (shr_Tells (named 0) κs.0 T.the_row, (LL.tells Q.the_type Q'.the_laws, tt)))
       (λ κs qs bounds a g are. via 𝓤 _ (fst∗ 𝓤 _ (emp 𝓤)) (walk 𝓛 mem run κs.0 bounds qs.0 a.0.ref_ptr.0 a.0.ref_ptr.1 0 a.0.now a.1.0 are.1.0 C Λ fm known))
 
@@ -147,7 +147,7 @@ f_meets : {M : Type 1} {𝓤 : Ura M} (𝓛 : Logic 𝓤) → (mem : Memory → 
     → Meets 𝓛 f.signature (WpFn 𝓤 𝓛.H 𝓣.C 𝓣.Λ code.function) (f.spec 𝓛 mem run)
 f_meets {𝓤 = 𝓤} 𝓛 mem run 𝓣 known =
     walk_Meets 𝓛 f.ended stayed (Goes-dropped 𝓛 1 (shr_ref_to (0 ∷ []) tt (plain (λ _. T.the_row))) yes (λ κs x f. refl), (Goes-dropped 𝓛 1 (plain (λ _. Q.the_row)) yes (λ κs x f. refl), tt)) (f.clauses 𝓛 mem run)
-    (WpFn 𝓤 𝓛.H 𝓣.C 𝓣.Λ code.function) (WpFn-mono 𝓤 𝓛.H 𝓛.laws 𝓣 code.function) (f-walks 𝓛 mem run 𝓣.C 𝓣.Λ (fm_of 𝓤 𝓛.H 𝓛.laws 𝓣) known)
+    (WpFn 𝓤 𝓛.H 𝓣.C 𝓣.Λ code.function) (WpFn-mono 𝓤 𝓛.H 𝓛.laws 𝓣 code.function) (f_walks 𝓛 mem run 𝓣.C 𝓣.Λ (fm_of 𝓤 𝓛.H 𝓛.laws 𝓣) known)
 
 pub digitmeadow-why-spec : {M : Type 1} → stated.statement M
 unfolding code.routine tables_of

@@ -1,8 +1,8 @@
 -- `host_numbers::of_acknowledged` meets its contract: each case of the answer has its numbers. Assumes nothing.
 use mathlib.Core.Path.{sym, ◌∙◌, ap}
-use Rattle.receiver_ack.specs.Acknowledge.{saidAck}
+use Rattle.receiver_ack.specs.Acknowledge.{said_ack}
 use Rattle.receiver_ack.specs.declared.Acknowledged.{Acknowledged}
-use Rattle.host_numbers.specs.Numbers.{inNumbers}
+use Rattle.host_numbers.specs.Numbers.{in_numbers}
 use borrow.Author.Rules.{rules}
 use Rattle.host_numbers.proofs.of_acknowledged.Statement.{statement}
 use Rattle.host_numbers.proofs.of_acknowledged.Tie as tie
@@ -18,11 +18,11 @@ number-requires c κs = search rules
 
 returns : tie.Need-returns
 returns c =
-    sym (ap (λ (a : Acknowledged). inNumbers (saidAck a)) c.before.a.given.1)
+    sym (ap (λ (a : Acknowledged). in_numbers (said_ack a)) c.before.a.given.1)
 
 returns-2 : tie.Need-returns-2
 returns-2 c =
-    (λ k. record { refusal = c.number.ensures k; count = 0 }) ∙ sym (ap (λ (a : Acknowledged). inNumbers (saidAck a)) c.before.before.a2.given.1)
+    (λ k. record { refusal = c.number.ensures k; count = 0 }) ∙ sym (ap (λ (a : Acknowledged). in_numbers (said_ack a)) c.before.before.a2.given.1)
 
 pub of-acknowledged-spec : {M : Type 1} → statement M
 of-acknowledged-spec =

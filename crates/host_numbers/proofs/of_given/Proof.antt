@@ -2,7 +2,7 @@
 use mathlib.Core.Path.{sym, ◌∙◌, ap}
 use Rattle.terms.specs.Answers.{said_of}
 use Rattle.terms.specs.declared.Given.{Given}
-use Rattle.host_numbers.specs.Numbers.{inNumbers}
+use Rattle.host_numbers.specs.Numbers.{in_numbers}
 use borrow.Author.Rules.{rules}
 use Rattle.host_numbers.proofs.of_given.Statement.{statement}
 use Rattle.host_numbers.proofs.of_given.Tie as tie
@@ -18,11 +18,11 @@ number-requires c κs = search rules
 
 returns : tie.Need-returns
 returns c =
-    sym (ap (λ (g : Given). inNumbers (said_of g)) c.before.g.given.1)
+    sym (ap (λ (g : Given). in_numbers (said_of g)) c.before.g.given.1)
 
 returns-2 : tie.Need-returns-2
 returns-2 c =
-    (λ k. record { refusal = c.number.ensures k; count = 0 }) ∙ sym (ap (λ (g : Given). inNumbers (said_of g)) c.before.before.g2.given.1)
+    (λ k. record { refusal = c.number.ensures k; count = 0 }) ∙ sym (ap (λ (g : Given). in_numbers (said_of g)) c.before.before.g2.given.1)
 
 pub of-given-spec : {M : Type 1} → statement M
 of-given-spec = tie.close (tie.spec enum-known-g enum-known-g-2 number-requires returns returns-2)

@@ -1,16 +1,16 @@
 -- `host_numbers::of_reason` meets its contract: each of the eight cases has its numbers, and a refusal has its own. Assumes nothing.
 use mathlib.Core.Path.{sym, ◌∙◌, ap}
-use Rattle.receiver_why.specs.Reasons.{saidWhy}
+use Rattle.receiver_why.specs.Reasons.{said_why}
 use Rattle.receiver_why.specs.declared.Reason.{Reason}
 use Rattle.host_numbers.specs.declared.Stand.{Stand}
-use Rattle.host_numbers.specs.Numbers.{standOf}
+use Rattle.host_numbers.specs.Numbers.{stand_of}
 use borrow.Author.Rules.{rules}
 use Rattle.host_numbers.proofs.of_reason.Statement.{statement}
 use Rattle.host_numbers.proofs.of_reason.Tie as tie
 
 -- an answer of the code, in numbers
 abbrev told : Reason → Stand
-told a = standOf (saidWhy a)
+told a = stand_of (said_why a)
 
 enum_told : tie.Need-enum-told
 enum_told c = search rules

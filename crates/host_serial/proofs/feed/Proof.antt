@@ -1,6 +1,6 @@
 -- `host_serial::feed` meets its contract: it gives what `serial_feed::feed` says, in numbers. Assumes nothing.
 use mathlib.Core.Path.{◌∙◌, ap}
-use Rattle.host_serial.specs.Line.{hostedFeed, hostFed}
+use Rattle.host_serial.specs.Line.{hosted_feed, host_fed}
 use borrow.Author.Rules.{rules}
 use Rattle.host_serial.proofs.feed.Statement.{statement}
 use Rattle.host_serial.proofs.feed.Tie as tie
@@ -17,7 +17,7 @@ same_length c = search rules
 returns : tie.Need-returns
 returns c =
     let f = c.before.before.before.before in
-    (λ k. hostFed (c.of-heard.ensures k) f.feed.new.1.1.0) ∙ ap hostedFeed f.feed.ensures
+    (λ k. host_fed (c.of-heard.ensures k) f.feed.new.1.1.0) ∙ ap hosted_feed f.feed.ensures
 
 pub feed-spec : {M : Type 1} → statement M
 feed-spec = tie.close (tie.spec feed-requires of-heard-requires same_length returns)

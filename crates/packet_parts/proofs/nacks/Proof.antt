@@ -2,7 +2,7 @@
 use mathlib.Core.Path.{◌∙◌}
 use native.Mathlib.Omega.{arith}
 use borrow.Author.Rules.{rules}
-use Rattle.packet_parts.proofs.Laws.{parts-laid}
+use Rattle.packet_parts.proofs.Laws.{parts_laid}
 use Rattle.packet_parts.proofs.nacks.Statement.{statement}
 use Rattle.packet_parts.proofs.nacks.Tie as tie
 
@@ -11,7 +11,7 @@ fields-or-none-requires c κs = search rules
 
 part-requires : tie.Need-part-requires
 part-requires c κs =
-    let l = parts-laid c.before.before.before.args.packet.now in
+    let l = parts_laid c.before.before.before.args.packet.now in
     rw c.before.fields-or-none.ensures (omega arith)
 
 returns : tie.Need-returns

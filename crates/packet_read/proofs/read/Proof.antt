@@ -1,22 +1,22 @@
 -- `packet_read::read` meets its contract: each test of a length is a rung of the ladder, and then the options are. Assumes nothing.
 use mathlib.Core.Path.{◌≡◌, sym, ◌∙◌, ap}
 use Rattle.terms.specs.Answers.{values}
-use Rattle.packet_read.specs.Going.{◌andThen◌}
-use Rattle.packet_read.specs.Options.{saidOptions}
+use Rattle.packet_read.specs.Going.{◌and_then◌}
+use Rattle.packet_read.specs.Options.{said_options}
 use Rattle.packet_read.specs.declared.Options.{Options}
-use Rattle.packet_read.specs.Reading.{withOptions, read_of}
-use Rattle.packet_read.proofs.Ways.{too_long, no_header, no-nacks, no-options, past-options, fields-are}
+use Rattle.packet_read.specs.Reading.{with_options, read_of}
+use Rattle.packet_read.proofs.Ways.{too_long, no_header, no_nacks, no_options, past_options, fields_are}
 use borrow.Author.Rules.{rules}
 use Rattle.packet_read.proofs.read.Statement.{statement}
 use Rattle.packet_read.proofs.read.Tie as tie
 
 past : (c : tie.After-options) → let p = c.before.before.before.before.before.before.before.before.before.args.packet.now in
-    (saidOptions c.options.result and_then withOptions p) ≡ read_of p
+    (said_options c.options.result and_then with_options p) ≡ read_of p
 past c =
     let e = c.before.before in
     let o = e.before in
     let n = o.before.before in
-    past-options _ n.before.before.if1.false n.before.if2.false _ n.be8.ensures o.before.if3.false _ o.be16.ensures e.if4.false _ c.before.be162.ensures _ c.options.ensures
+    past_options _ n.before.before.if1.false n.before.if2.false _ n.be8.ensures o.before.if3.false _ o.be16.ensures e.if4.false _ c.before.be162.ensures _ c.options.ensures
 
 returns : tie.Need-returns
 returns c = too_long _ c.if1.true
@@ -39,7 +39,7 @@ add-options-at c = search rules
 returns-3 : tie.Need-returns-3
 returns-3 c =
     let n = c.before in
-    no-nacks _ n.before.before.if1.false n.before.if2.false _ n.be8.ensures c.if3.true
+    no_nacks _ n.before.before.if1.false n.before.if2.false _ n.be8.ensures c.if3.true
 
 mul-be16 : tie.Need-overflow-mul-be16
 mul-be16 c = search rules
@@ -60,7 +60,7 @@ returns-4 : tie.Need-returns-4
 returns-4 c =
     let o = c.before in
     let n = o.before.before in
-    no-options _ n.before.before.if1.false n.before.if2.false _ n.be8.ensures o.before.if3.false _ o.be16.ensures c.if4.true
+    no_options _ n.before.before.if1.false n.before.if2.false _ n.be8.ensures o.before.if3.false _ o.be16.ensures c.if4.true
 
 mul-be16-2 : tie.Need-overflow-mul-be16-2
 mul-be16-2 c = search rules
@@ -87,7 +87,7 @@ returns-5 : tie.Need-returns-5
 returns-5 c =
     let o = c.before.before.before in
     let p = o.before.before.before.before.before.before.before.before.before.args.packet.now in
-    sym (ap (λ (r : Options). saidOptions r and_then withOptions p) c.before.r.given.1) ∙ past o
+    sym (ap (λ (r : Options). said_options r and_then with_options p) c.before.r.given.1) ∙ past o
 
 returns-6 : tie.Need-returns-6
 returns-6 c =
@@ -96,8 +96,8 @@ returns-6 c =
     let b = e.before in
     let n = b.before.before in
     let p = n.before.before.before.before.args.packet.now in
-    ap values (c.fields.ensures ∙ fields-are _ n.before.before.if1.false n.before.if2.false _ n.be8.ensures b.before.if3.false _ b.be16.ensures _ o.before.be162.ensures _)
-    ∙ sym (ap (λ (r : Options). saidOptions r and_then withOptions p) c.before.before.f.given.1)
+    ap values (c.fields.ensures ∙ fields_are _ n.before.before.if1.false n.before.if2.false _ n.be8.ensures b.before.if3.false _ b.be16.ensures _ o.before.be162.ensures _)
+    ∙ sym (ap (λ (r : Options). said_options r and_then with_options p) c.before.before.f.given.1)
     ∙ past o
 
 pub read_spec : {M : Type 1} → statement M

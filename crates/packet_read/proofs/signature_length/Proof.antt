@@ -1,7 +1,7 @@
 -- `packet_read::signature_length` meets its contract: the destination that was found fills the bytes. Assumes nothing.
 use mathlib.Core.Path.{sym, ◌∙◌, ap}
 use lib.ListN.{length}
-use Rattle.packet_read.specs.Destination.{saidDestination, signsFilling, signsOf}
+use Rattle.packet_read.specs.Destination.{said_destination, signs_filling, signs_of}
 use Rattle.packet_read.specs.declared.DestinationFound.{DestinationFound}
 use borrow.Author.Rules.{rules}
 use Rattle.packet_read.proofs.signature_length.Statement.{statement}
@@ -20,18 +20,18 @@ enum_told : tie.Need-enum-told
 enum_told c = search rules
 
 returns : tie.Need-returns
-unfolding signsOf
+unfolding signs_of
 returns c =
     let d = c.before.before.before.before in
     let n = length d.before.before.args.bytes.now in
-    c.size-if.ensures.0 ∙ sym (ap (λ (f : DestinationFound). signsFilling n (saidDestination f)) c.before.before.size.given.1) ∙ ap (signsFilling n) d.destination-in.ensures
+    c.size-if.ensures.0 ∙ sym (ap (λ (f : DestinationFound). signs_filling n (said_destination f)) c.before.before.size.given.1) ∙ ap (signs_filling n) d.destination-in.ensures
 
 returns-2 : tie.Need-returns-2
-unfolding signsOf
+unfolding signs_of
 returns-2 c =
     let d = c.before.before in
     let n = length d.before.before.args.bytes.now in
-    sym (ap (λ (f : DestinationFound). signsFilling n (saidDestination f)) c.enum_told.given.1) ∙ ap (signsFilling n) d.destination-in.ensures
+    sym (ap (λ (f : DestinationFound). signs_filling n (said_destination f)) c.enum_told.given.1) ∙ ap (signs_filling n) d.destination-in.ensures
 
 pub signature-length-spec : {M : Type 1} → statement M
 signature-length-spec =

@@ -4,19 +4,19 @@ use mathlib.Core.Logic.{⊎_elim}
 use native.Mathlib.Omega.{arith}
 use borrow.Author.Rules.{rules}
 use borrow.Author.Tests.{eq-eqb, ne_eqb}
-use Rattle.receiver_ack.specs.Missing.{notHeld}
-use Rattle.receiver_ack.proofs.Listed.{Listed, list-start, list-found, list-passed, list-end}
+use Rattle.receiver_ack.specs.Missing.{not_held}
+use Rattle.receiver_ack.proofs.Listed.{Listed, list_start, list_found, list_passed, list_end}
 use Rattle.receiver_ack.proofs.list_missing.Statement.{statement}
 use Rattle.receiver_ack.proofs.list_missing.Tie as tie
 
 abbrev invariant-loop : tie.invariant-loop
-invariant-loop marks missing₀ count₀ number₀ last missing count number = Listed (notHeld marks) number₀ last missing₀ missing count number
+invariant-loop marks missing₀ count₀ number₀ last missing count number = Listed (not_held marks) number₀ last missing₀ missing count number
 
 abbrev decreases-loop : tie.decreases-loop
 decreases-loop marks missing₀ count₀ number₀ last missing count number = last + 1 - number
 
 loop-holds : tie.Need-loop-init invariant-loop decreases-loop
-loop-holds c = list-start _ _ _ _
+loop-holds c = list_start _ _ _ _
 
 cast-at : tie.Need-overflow-cast-at invariant-loop decreases-loop
 cast-at c = search rules
@@ -47,17 +47,17 @@ loop-again c =
     let h = c.before.before.before in
     let a = h.before.args in
     let l = h.loop in
-    let test = notHeld a.marks.now in
+    let test = not_held a.marks.now in
     ⊎_elim
-    (λ w. rw (w.1, w.2) (list-found test a.next.0 a.highest.0 a.missing.now l.missing l.count l.number l.invariant (omega arith) (eq-eqb _ _ w.0.taken) (omega arith)))
-    (λ w. rw (w.1, w.2) (list-passed test a.next.0 a.highest.0 a.missing.now l.missing l.count l.number l.invariant (omega arith) (ne_eqb _ _ w.0.left)))
+    (λ w. rw (w.1, w.2) (list_found test a.next.0 a.highest.0 a.missing.now l.missing l.count l.number l.invariant (omega arith) (eq-eqb _ _ w.0.taken) (omega arith)))
+    (λ w. rw (w.1, w.2) (list_passed test a.next.0 a.highest.0 a.missing.now l.missing l.count l.number l.invariant (omega arith) (ne_eqb _ _ w.0.left)))
     c.if1.branch
 
 returns : tie.Need-returns invariant-loop decreases-loop
 returns c =
     let h = c.before in
     let a = h.before.args in
-    list-end a.next.0 a.highest.0 a.marks.now a.missing.now h.loop.missing h.loop.count h.loop.number h.loop.invariant c.loop-test.false
+    list_end a.next.0 a.highest.0 a.marks.now a.missing.now h.loop.missing h.loop.count h.loop.number h.loop.invariant c.loop-test.false
 
 pub list-missing-spec : {M : Type 1} → statement M
 list-missing-spec =

@@ -3,19 +3,19 @@ use Prim.Native.Nat.{◌≤◌}
 use mathlib.Core.Path.{◌≡◌, sym}
 use lib.ListN.{length, take}
 use lib.Seq.{length-take-le}
-use Rattle.receiver_ack.specs.Fields.{nacksFrom}
-use Rattle.receiver_ack.proofs.Ways.{nacks-front, plain-refused, plain-written}
+use Rattle.receiver_ack.specs.Fields.{nacks_from}
+use Rattle.receiver_ack.proofs.Ways.{nacks_front, plain_refused, plain_written}
 use borrow.Author.Rules.{rules}
 use Rattle.receiver_ack.proofs.plain.Statement.{statement}
 use Rattle.receiver_ack.proofs.plain.Tie as tie
 
 -- the NACKs, which the table has at its front
 nacks : (g : tie.After-fields) → let a = g.before.before.before.before.args in
-    (take g.fields.result.nacks g.fields.new.1.1.1.0 ≡ nacksFrom a.next.0 a.highest.0 a.marks.now)
+    (take g.fields.result.nacks g.fields.new.1.1.1.0 ≡ nacks_from a.next.0 a.highest.0 a.marks.now)
     × (g.fields.result.nacks ≤ length g.fields.new.1.1.1.0)
 nacks g =
     let a = g.before.before.before.before.args in
-    nacks-front a.next.0 a.highest.0 a.marks.now _ g.fields.result g.fields.new.1.1.1.0 g.fields.ensures.0 g.fields.ensures.1
+    nacks_front a.next.0 a.highest.0 a.marks.now _ g.fields.result g.fields.new.1.1.1.0 g.fields.ensures.0 g.fields.ensures.1
 
 fields-requires : tie.Need-fields-requires
 fields-requires c κs = search rules
@@ -52,7 +52,7 @@ returns c =
     let w = c.before.before.before.before.before in
     let g = w.before.before.before.before.before.before.before in
     let a = g.before.before.before.before.args in
-    plain-refused a.next.0 a.highest.0 a.marks.now a.send a.recv g.fields.result (take g.fields.result.nacks g.fields.new.1.1.1.0)
+    plain_refused a.next.0 a.highest.0 a.marks.now a.send a.recv g.fields.result (take g.fields.result.nacks g.fields.new.1.1.1.0)
     a.output.now w.write.new.1.1.1.1.1.0 w.write.result g.fields.ensures.0 (nacks g).0 w.write.ensures.0 w.write.ensures.1 _ c.before.why.given.1
 
 same-length-2 : tie.Need-same-length-2
@@ -63,7 +63,7 @@ returns-2 c =
     let w = c.before.before.before.before.before in
     let g = w.before.before.before.before.before.before.before in
     let a = g.before.before.before.before.args in
-    plain-written a.next.0 a.highest.0 a.marks.now a.send a.recv g.fields.result (take g.fields.result.nacks g.fields.new.1.1.1.0)
+    plain_written a.next.0 a.highest.0 a.marks.now a.send a.recv g.fields.result (take g.fields.result.nacks g.fields.new.1.1.1.0)
     a.output.now w.write.new.1.1.1.1.1.0 w.write.result g.fields.ensures.0 (nacks g).0 w.write.ensures.0 w.write.ensures.1 _ _ c.before.length.given.1
 
 pub plain-spec : {M : Type 1} → statement M

@@ -5,15 +5,15 @@ use native.Mathlib.Omega.{arith}
 use lib.ListN.{length}
 use Rattle.terms.specs.Answers.{values, said}
 use Rattle.receiver_state.specs.Answers.{◌over◌}
-use Rattle.receiver_calls.specs.Accept.{acceptSaid}
-use Rattle.receiver_calls.proofs.Outcomes.{accept-kept, accept-made, Passed, passed, slot-in}
+use Rattle.receiver_calls.specs.Accept.{accept_said}
+use Rattle.receiver_calls.proofs.Outcomes.{accept-kept, accept-made, Passed, passed, slot_in}
 use borrow.Author.Rules.{rules}
 use Rattle.receiver_calls.proofs.accept_in.Statement.{statement}
 use Rattle.receiver_calls.proofs.accept_in.Tie as tie
 
 -- what holds where the answer is done
 done : (c : tie.After-enum-told2) → let a = c.before.before.before.before.before.before.before.args in
-    acceptSaid (a.h over a.marks.now) a.number (length a.payload.now) (length a.store.now) ≡ values []
+    accept_said (a.h over a.marks.now) a.number (length a.payload.now) (length a.store.now) ≡ values []
 done c = sym c.before.before.judge-accept.ensures ∙ ap said c.enum-told2.given.1
 
 ok : (c : tie.After-enum-told2) → let a = c.before.before.before.before.before.before.before.args in
@@ -39,19 +39,19 @@ mul-from : tie.Need-overflow-mul-from
 mul-from c =
     let p = ok c in
     let a = c.before.before.before.before.before.before.before.args in
-    omega (arith, slot-in a.h.slot a.number.0 (length a.store.now) p.sizes.store)
+    omega (arith, slot_in a.h.slot a.number.0 (length a.store.now) p.sizes.store)
 
 sub-put-bytes : tie.Need-overflow-sub-put-bytes
 sub-put-bytes c =
     let p = ok c in
     let a = c.before.before.before.before.before.before.before.args in
-    omega (arith, slot-in a.h.slot a.number.0 (length a.store.now) p.sizes.store)
+    omega (arith, slot_in a.h.slot a.number.0 (length a.store.now) p.sizes.store)
 
 part-put-bytes-start : tie.Need-slice-bounds-put-bytes-start
 part-put-bytes-start c =
     let p = ok c in
     let a = c.before.before.before.before.before.before.before.args in
-    omega (arith, slot-in a.h.slot a.number.0 (length a.store.now) p.sizes.store)
+    omega (arith, slot_in a.h.slot a.number.0 (length a.store.now) p.sizes.store)
 
 part-put-bytes-end : tie.Need-slice-bounds-put-bytes-end
 part-put-bytes-end c = search rules
@@ -60,7 +60,7 @@ put-bytes-requires : tie.Need-put-bytes-requires
 put-bytes-requires c κs =
     let p = ok c.before in
     let a = c.before.before.before.before.before.before.before.before.args in
-    omega (arith, slot-in a.h.slot a.number.0 (length a.store.now) p.sizes.store)
+    omega (arith, slot_in a.h.slot a.number.0 (length a.store.now) p.sizes.store)
 
 add-marks : tie.Need-overflow-add-marks
 add-marks c = search rules

@@ -5,17 +5,17 @@ use mathlib.Core.Bool.{true}
 use native.Mathlib.Omega.{arith}
 use borrow.Author.Tests.{not-true, not-false}
 use Rattle.receiver_state.specs.Answers.{◌over◌}
-use Rattle.receiver_state.specs.Rules.{rulesOf, sizesFit}
-use Rattle.receiver_calls.proofs.Ways.{take-11, take-10, take-17, take-7, take_0}
+use Rattle.receiver_state.specs.Rules.{rules_of, sizes_fit}
+use Rattle.receiver_calls.proofs.Ways.{take_11, take_10, take_17, take_7, take_0}
 use borrow.Author.Rules.{rules}
 use Rattle.receiver_calls.proofs.judge_take.Statement.{statement}
 use Rattle.receiver_calls.proofs.judge_take.Tie as tie
 
 -- past the first two tests
 judged : (c : tie.Else2) → let a = c.before.before.before.before.before.args in
-    (rulesOf (a.h over a.marks.now) ≡ true) × (sizesFit a.h.slot a.store_length ≡ true)
+    (rules_of (a.h over a.marks.now) ≡ true) × (sizes_fit a.h.slot a.store_length ≡ true)
 judged c = (
-  sym c.before.before.before.rules-hold.ensures ∙ not-false _ c.before.before.if1.false,
+  sym c.before.before.before.rules_hold.ensures ∙ not-false _ c.before.before.if1.false,
   sym c.before.sizes-fit.ensures ∙ not-false _ c.if2.false,
 )
 
@@ -23,14 +23,14 @@ rules-hold-requires : tie.Need-rules-hold-requires
 rules-hold-requires c κs = search rules
 
 returns : tie.Need-returns
-returns c = take-11 _ _ _ (sym c.before.rules-hold.ensures ∙ not-true _ c.if1.true)
+returns c = take_11 _ _ _ (sym c.before.rules_hold.ensures ∙ not-true _ c.if1.true)
 
 sizes-fit-requires : tie.Need-sizes-fit-requires
 sizes-fit-requires c κs = search rules
 
 returns-2 : tie.Need-returns-2
 returns-2 c =
-    take-10 _ _ _ (sym c.before.before.before.rules-hold.ensures ∙ not-false _ c.before.before.if1.false) (sym c.before.sizes-fit.ensures ∙ not-true _ c.if2.true)
+    take_10 _ _ _ (sym c.before.before.before.rules_hold.ensures ∙ not-false _ c.before.before.if1.false) (sym c.before.sizes-fit.ensures ∙ not-true _ c.if2.true)
 
 cast-place : tie.Need-overflow-cast-place
 cast-place c = search rules
@@ -42,7 +42,7 @@ shared-slice-read-mark : tie.Need-shared-slice-read-mark
 shared-slice-read-mark c = search rules
 
 returns-3 : tie.Need-returns-3
-returns-3 c = let j = judged c.before.before in take-17 _ _ _ j.0 j.1 c.if3.true
+returns-3 c = let j = judged c.before.before in take_17 _ _ _ j.0 j.1 c.if3.true
 
 sub-size : tie.Need-overflow-sub-size
 sub-size c = search rules
@@ -51,7 +51,7 @@ cast-size : tie.Need-overflow-cast-size
 cast-size c = omega (arith, c.before.shared-slice-known2.given (c.before.before.before.before.before.before.before.args.h.next.0 % 512))
 
 returns-4 : tie.Need-returns-4
-returns-4 c = let j = judged c.before.before.before in take-7 _ _ _ j.0 j.1 c.before.if3.false (omega arith)
+returns-4 c = let j = judged c.before.before.before in take_7 _ _ _ j.0 j.1 c.before.if3.false (omega arith)
 
 returns-5 : tie.Need-returns-5
 returns-5 c = let j = judged c.before.before.before in take_0 _ _ _ j.0 j.1 c.before.if3.false (omega arith)

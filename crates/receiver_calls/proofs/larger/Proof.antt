@@ -6,14 +6,14 @@ use Rattle.terms.specs.declared.SeqNo.{SeqNo}
 use Rattle.receiver_calls.proofs.larger.Statement.{statement}
 use Rattle.receiver_calls.proofs.larger.Tie as tie
 
-as-numbers : (a : SeqNo) (n : ℕ) → a.0 ≡ n → ◌≡◌ {A = SeqNo} a (record { 0 = n })
-as-numbers a n e = λ k. record { 0 = e k }
+as_numbers : (a : SeqNo) (n : ℕ) → a.0 ≡ n → ◌≡◌ {A = SeqNo} a (record { 0 = n })
+as_numbers a n e = λ k. record { 0 = e k }
 
 returns : tie.Need-returns
-returns c = as-numbers _ _ (omega arith)
+returns c = as_numbers _ _ (omega arith)
 
 returns-2 : tie.Need-returns-2
-returns-2 c = as-numbers _ _ (omega arith)
+returns-2 c = as_numbers _ _ (omega arith)
 
 pub larger-spec : {M : Type 1} → statement M
 larger-spec = tie.close (tie.spec returns returns-2)

@@ -6,15 +6,15 @@ use lib.ListN.{length, length-take, length-drop}
 use Rattle.terms.specs.Answers.{values, said_of}
 use Rattle.receiver_state.specs.Answers.{◌over◌}
 use Rattle.receiver_state.specs.Slots.{length_of}
-use Rattle.receiver_calls.specs.Take.{nextMark, takeSaid}
-use Rattle.receiver_calls.proofs.Outcomes.{take-kept, take-made, Gives, gives, slot-in}
+use Rattle.receiver_calls.specs.Take.{next_mark, take_said}
+use Rattle.receiver_calls.proofs.Outcomes.{take-kept, take-made, Gives, gives, slot_in}
 use borrow.Author.Rules.{rules}
 use Rattle.receiver_calls.proofs.take_in.Statement.{statement}
 use Rattle.receiver_calls.proofs.take_in.Tie as tie
 
 -- what holds where the answer is a count
 given : (c : tie.After-answer) → let a = c.before.before.before.before.before.before.before.args in
-    takeSaid (a.h over a.marks.now) (length a.store.now) (length a.output.now) ≡ values (c.answer.given.0.0 ∷ [])
+    take_said (a.h over a.marks.now) (length a.store.now) (length a.output.now) ≡ values (c.answer.given.0.0 ∷ [])
 given c = sym c.before.before.judge-take.ensures ∙ ap said_of c.answer.given.1
 
 ok : (c : tie.After-answer) → let a = c.before.before.before.before.before.before.before.args in
@@ -22,7 +22,7 @@ ok : (c : tie.After-answer) → let a = c.before.before.before.before.before.bef
 ok c = gives _ _ _ _ c.before.before.before.before.before.before.before.requires (given c)
 
 counted : (c : tie.After-answer) → let a = c.before.before.before.before.before.before.before.args in
-    c.answer.given.0.0 ≡ length_of (nextMark (a.h over a.marks.now))
+    c.answer.given.0.0 ≡ length_of (next_mark (a.h over a.marks.now))
 counted c = let e = (ok c).is in cc
 
 judge-take-requires : tie.Need-judge-take-requires
@@ -44,13 +44,13 @@ mul-from : tie.Need-overflow-mul-from
 mul-from c =
     let p = ok c.before in
     let a = c.before.before.before.before.before.before.before.before.args in
-    omega (arith, slot-in a.h.slot a.h.next.0 (length a.store.now) p.sizes.store)
+    omega (arith, slot_in a.h.slot a.h.next.0 (length a.store.now) p.sizes.store)
 
 add-end : tie.Need-overflow-add-end
 add-end c =
     let p = ok c.before in
     let a = c.before.before.before.before.before.before.before.before.args in
-    omega (arith, slot-in a.h.slot a.h.next.0 (length a.store.now) p.sizes.store, counted c.before)
+    omega (arith, slot_in a.h.slot a.h.next.0 (length a.store.now) p.sizes.store, counted c.before)
 
 sub-put-bytes : tie.Need-overflow-sub-put-bytes
 sub-put-bytes c = search rules
@@ -62,7 +62,7 @@ part-put-bytes-end : tie.Need-slice-bounds-put-bytes-end
 part-put-bytes-end c =
     let p = ok c.before.before in
     let a = c.before.before.before.before.before.before.before.before.before.args in
-    omega (arith, slot-in a.h.slot a.h.next.0 (length a.store.now) p.sizes.store, counted c.before.before)
+    omega (arith, slot_in a.h.slot a.h.next.0 (length a.store.now) p.sizes.store, counted c.before.before)
 
 put-bytes-requires : tie.Need-put-bytes-requires
 put-bytes-requires c κs =

@@ -47,7 +47,7 @@ use Rattle.terms.specs.contracts.SeqNo as Q
 use Rattle.terms.proofs.SeqNo.TheLaws as Q'
 use Rattle.receiver_state.specs.declared.Receiver.{Receiver}
 use Rattle.receiver_calls.specs.declared.Accepted.{Accepted}
-use Rattle.receiver_calls.specs.Accept.{acceptOf, accepted}
+use Rattle.receiver_calls.specs.Accept.{accept_of, accepted}
 use Rattle.receiver_state.specs.contracts.Receiver as T
 use Rattle.receiver_state.proofs.Receiver.TheLaws as T'
 use Rattle.receiver_calls.specs.contracts.Accepted as P
@@ -101,15 +101,15 @@ module _ {M : Type 1} {𝓤 : Ura M} (𝓛 : Logic 𝓤) (at_mem : Memory → SP
   abbrev given : Receiver × (SeqNo × (Bor (List ℕ) × (Bor (List ℕ) × Unit {0})))
   given = (h, (number, (payload, (store, tt))))
 
-  abbrev to-core : (Core 𝓛 at_mem run).Ghost
-  to-core = (((κ', (κ'', tt)), (q', (q'', tt)), tt, given, (vals h, (n ∷ [], (p ∷ [], (s ∷ [], tt))))), tt)
+  abbrev to_core : (Core 𝓛 at_mem run).Ghost
+  to_core = (((κ', (κ'', tt)), (q', (q'', tt)), tt, given, (vals h, (n ∷ [], (p ∷ [], (s ∷ [], tt))))), tt)
 
-  goes-core : ent 𝓤 (sep 𝓤 (sep 𝓤 (A.lft κ' q') (sep 𝓤 (A.lft κ'' q'') (sem 𝓛 ftrue))) (sem 𝓛 (owns (T.the_row ∷ Q.the_row ∷ ShrSlice (named 0) κ' u8 ∷ MutSlice (named 1) κ'' u8 ∷ []) given (vals h, (n ∷ [], (p ∷ [], (s ∷ [], tt))))))) ((Core 𝓛 at_mem run).pre to-core)
-  goes-core = qed 𝓛 (((‵ (flft κ' q') ⊛ (‵ (flft κ'' q'') ⊛ ‵ ftrue)) ⊛ ‵ (owns (T.the_row ∷ Q.the_row ∷ ShrSlice (named 0) κ' u8 ∷ MutSlice (named 1) κ'' u8 ∷ []) given (vals h, (n ∷ [], (p ∷ [], (s ∷ [], tt)))))) ∷ []) ∵ frame ! $ done !
+  goes_core : ent 𝓤 (sep 𝓤 (sep 𝓤 (A.lft κ' q') (sep 𝓤 (A.lft κ'' q'') (sem 𝓛 ftrue))) (sem 𝓛 (owns (T.the_row ∷ Q.the_row ∷ ShrSlice (named 0) κ' u8 ∷ MutSlice (named 1) κ'' u8 ∷ []) given (vals h, (n ∷ [], (p ∷ [], (s ∷ [], tt))))))) ((Core 𝓛 at_mem run).pre to_core)
+  goes_core = qed 𝓛 (((‵ (flft κ' q') ⊛ (‵ (flft κ'' q'') ⊛ ‵ ftrue)) ⊛ ‵ (owns (T.the_row ∷ Q.the_row ∷ ShrSlice (named 0) κ' u8 ∷ MutSlice (named 1) κ'' u8 ∷ []) given (vals h, (n ∷ [], (p ∷ [], (s ∷ [], tt)))))) ∷ []) ∵ frame ! $ done !
 
   -- what it says, with the store's last bytes
   abbrev Said : Accepted → List ℕ → Type 0
-  Said r zs = accepted r zs ≡ acceptOf h number payload.now store.now
+  Said r zs = accepted r zs ≡ accept_of h number payload.now store.now
 
   -- of an `Accepted` that is had: what its fields are
   state-is : (r : Accepted) (v : Val) → Is P.the_row r (v ∷ []) → Is T.the_row r.state (vals r.state)
@@ -143,8 +143,8 @@ module _ {M : Type 1} {𝓤 : Ura M} (𝓛 : Logic 𝓤) (at_mem : Memory → SP
         assigns ! (addr ! (from ! (fld ! refl (hop ! (look_in ! 14 (sub ! 0 refl (whole !))) (stop !))))) (from ! (stop !)) (init ! 8 refl (tt, tt)) $
         assigns ! (agg ! (and_then ! (load ! (from ! (stop !)) (look ! 8 refl)) (and_then ! (load ! (from ! (fld ! refl (stop !))) (look_in ! 14 (sub ! 1 refl (whole !)))) (no_more !)))) (from ! (stop !)) (init ! 6 refl (tt, (tt, (record { fits = store-room.0 }, tt)))) $
         -- the call
-        move ! (5 ∷ []) $ owned ! T.the_row (Is T.the_row) (LL.makes T.the_type T'.the_plain 𝓛) h _ g $ fjoin ! $ move ! (5 ∷ 0 ∷ []) $ join ! $ use1 𝓛 (raw ((Core 𝓛 at_mem run).pre to-core)) goes-core $
-        calls_at ! fm (Core 𝓛 at_mem run) known to-core (and_then ! (load ! (from ! (stop !)) (look ! 9 refl)) (and_then ! (load ! (from ! (stop !)) (look ! 17 refl)) (and_then ! (load ! (from ! (stop !)) (look ! 15 refl)) (and_then ! (load ! (from ! (stop !)) (look ! 5 refl)) (no_more !))))) (λ w.
+        move ! (5 ∷ []) $ owned ! T.the_row (Is T.the_row) (LL.makes T.the_type T'.the_plain 𝓛) h _ g $ fjoin ! $ move ! (5 ∷ 0 ∷ []) $ join ! $ use1 𝓛 (raw ((Core 𝓛 at_mem run).pre to_core)) goes_core $
+        calls_at ! fm (Core 𝓛 at_mem run) known to_core (and_then ! (load ! (from ! (stop !)) (look ! 9 refl)) (and_then ! (load ! (from ! (stop !)) (look ! 17 refl)) (and_then ! (load ! (from ! (stop !)) (look ! 15 refl)) (and_then ! (load ! (from ! (stop !)) (look ! 5 refl)) (no_more !))))) (λ w.
         use1 𝓛 (later (some (λ (r : Accepted). ((‵ (flft κ' q') ⊛ (‵ (flft κ'' q'') ⊛ ‵ ftrue)) ⊛ ‵ ((P.the_row).own_val r (w ∷ []))) ⊛ raw (ensured 𝓛 core.ended (core.clauses 𝓛 at_mem run) (κ', (κ'', tt)) given tt r)))) (id⊢ 𝓤 _) $ await ! tt $ pick ! (λ r.
         split ! $ move ! (1 ∷ []) $ use1 𝓛 (some (λ (ws : Unit {0} × (Unit {0} × (Unit {0} × (List ℕ × Unit {0})))). ‵ (lasts core.ended (κ', (κ'', tt)) given ws) ⊛ raw (fact 𝓤 (Said r ws.1.1.1.0)))) (id⊢ 𝓤 _) $ pick ! (λ ws.
         split ! $ move ! (1 ∷ []) $ heard ! (Said r ws.1.1.1.0) (λ e. fsplit ! $ drop ! $ fsplit ! $ drop ! $ fsplit ! $ drop ! $ fsplit ! $ fsplit ! $ move ! (1 ∷ []) $ feq_l ! (λ l.
@@ -164,8 +164,8 @@ module _ {M : Type 1} {𝓤 : Ura M} (𝓛 : Logic 𝓤) (at_mem : Memory → SP
 module _ {M : Type 1} {𝓤 : Ura M} (𝓛 : Logic 𝓤) (mem : Memory → SProp 𝓤) (run : Routine → Fun 𝓤) where
   open 𝓛 use {H}
 
-  f-walks : (C : Calls 𝓤 H) (Λ : Loops 𝓤 H) → FmC 𝓤 H 𝓛.laws C → Triple 𝓤 (C #receiver-calls·accept) (Core 𝓛 mem run) → Walks 𝓛 f.ended stayed (WpFn 𝓤 H C Λ code.function) (f.clauses 𝓛 mem run)
-  f-walks C Λ fm known = walked 𝓛 f.ended stayed (f.clauses 𝓛 mem run) (WpFn 𝓤 H C Λ code.function) (λ κs. (shr_vals, (LL.vals Q.the_type Q'.the_laws, (shr_slice_vals, (shr_slice_vals, tt)))))
+  f_walks : (C : Calls 𝓤 H) (Λ : Loops 𝓤 H) → FmC 𝓤 H 𝓛.laws C → Triple 𝓤 (C #receiver-calls·accept) (Core 𝓛 mem run) → Walks 𝓛 f.ended stayed (WpFn 𝓤 H C Λ code.function) (f.clauses 𝓛 mem run)
+  f_walks C Λ fm known = walked 𝓛 f.ended stayed (f.clauses 𝓛 mem run) (WpFn 𝓤 H C Λ code.function) (λ κs. (shr_vals, (LL.vals Q.the_type Q'.the_laws, (shr_slice_vals, (shr_slice_vals, tt)))))
       (λ κs. (mut_Tells (named 0) κs.0 T.the_row, (LL.tells Q.the_type Q'.the_laws, (shr_slice_Tells (named 1) κs.1.0 u8, (mut_slice_Tells (named 2) κs.1.1.0 u8, tt)))))
       (λ κs qs bounds a g are. via 𝓤 _ (fst∗ 𝓤 _ (emp 𝓤)) (walk 𝓛 mem run κs.0 κs.1.0 κs.1.1.0 bounds qs.0 qs.1.0 qs.1.1.0 a.0.ref_ptr.0 a.0.ref_ptr.1 a.0.ghost_name a.0.now a.1.0 a.1.1.0 a.1.1.1.0 are.1.0 are.1.1.0.0.1 are.1.1.1.0.0.1 C Λ fm known))
 
@@ -173,7 +173,7 @@ f_meets : {M : Type 1} {𝓤 : Ura M} (𝓛 : Logic 𝓤) → (mem : Memory → 
     → Meets 𝓛 f.signature (WpFn 𝓤 𝓛.H 𝓣.C 𝓣.Λ code.function) (f.spec 𝓛 mem run)
 f_meets {𝓤 = 𝓤} 𝓛 mem run 𝓣 known =
     walk_Meets 𝓛 f.ended stayed (Goes-ref 𝓛 3 0 tt (plain (λ _. T.the_row)), (Goes-dropped 𝓛 3 (plain (λ _. Q.the_row)) yes (λ κs x f. refl), (Goes-dropped 𝓛 3 (shr_slice_of (1 ∷ []) tt (plain (λ _. u8))) yes (λ κs x f. refl), (Goes-gave_slice 𝓛 3 2 tt (plain (λ _. u8)), tt)))) (f.clauses 𝓛 mem run)
-    (WpFn 𝓤 𝓛.H 𝓣.C 𝓣.Λ code.function) (WpFn-mono 𝓤 𝓛.H 𝓛.laws 𝓣 code.function) (f-walks 𝓛 mem run 𝓣.C 𝓣.Λ (fm_of 𝓤 𝓛.H 𝓛.laws 𝓣) known)
+    (WpFn 𝓤 𝓛.H 𝓣.C 𝓣.Λ code.function) (WpFn-mono 𝓤 𝓛.H 𝓛.laws 𝓣 code.function) (f_walks 𝓛 mem run 𝓣.C 𝓣.Λ (fm_of 𝓤 𝓛.H 𝓛.laws 𝓣) known)
 
 pub accept-spec : {M : Type 1} → stated.statement M
 unfolding code.routine tables_of

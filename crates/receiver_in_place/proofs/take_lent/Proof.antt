@@ -49,7 +49,7 @@ use Rattle.receiver_state.specs.declared.Receiver.{Receiver}
 use Rattle.receiver_calls.specs.declared.TakenIn.{TakenIn}
 use Rattle.receiver_state.specs.Answers.{◌over◌, Outcome}
 use Rattle.receiver_state.specs.declared.Head.{Head}
-use Rattle.receiver_calls.specs.Take.{take_of, tookOver}
+use Rattle.receiver_calls.specs.Take.{take_of, took_over}
 use Rattle.receiver_state.specs.contracts.Head as Hd
 use Rattle.receiver_state.proofs.Head.TheLaws as Hd'
 use Rattle.receiver_state.specs.contracts.Receiver as T
@@ -62,9 +62,9 @@ use Rattle.receiver_calls.specs.contracts.take_in as core
 use Rattle.receiver_calls.proofs.take_in.Symbol as core-def
 use Rattle.receiver_calls.proofs.take_in.Symbol.{name as #receiver-calls·take-in}
 use Rattle.receiver_calls.proofs.take_in.Met as core-thm
-use Rattle.receiver_in_place.specs.Behind.{tookBehind}
-use Rattle.receiver_in_place.proofs.InMem.{packs, unpacks, named-part}
-use Rattle.receiver_in_place.proofs.State.{vals, head-vals, Marks, head-is, marks-whole, State-Cut, state-cut}
+use Rattle.receiver_in_place.specs.Behind.{took_behind}
+use Rattle.receiver_in_place.proofs.InMem.{packs, unpacks, named_part}
+use Rattle.receiver_in_place.proofs.State.{vals, head_vals, Marks, head-is, marks_whole, StateCut, state_cut}
 use Rattle.receiver_in_place.specs.contracts.take_lent.Key.{name as #receiver-in-place·take-lent}
 use Rattle.receiver_in_place.specs.contracts.take_lent as f
 use Rattle.receiver_in_place.proofs.take_lent.Statement as stated
@@ -118,33 +118,33 @@ module _ {M : Type 1} {𝓤 : Ura M} (𝓛 : Logic 𝓤) (at_mem : Memory → SP
   to_in δ = (h.head, (y δ, (store, (output, tt))))
 
   abbrev at_in : List Val × (List Val × (List Val × (List Val × Unit {0})))
-  at_in = (head-vals h.head, (vptr b (o + 16) ∷ [], (s ∷ [], (u ∷ [], tt))))
+  at_in = (head_vals h.head, (vptr b (o + 16) ∷ [], (s ∷ [], (u ∷ [], tt))))
 
-  abbrev to-core : ℕ → GName → (Core 𝓛 at_mem run).Ghost
-  to-core ν δ = (((ν ∷ [], (κ', (κ'', tt))), (full_share, (q', (q'', tt))), tt, to_in δ, at_in), tt)
+  abbrev to_core : ℕ → GName → (Core 𝓛 at_mem run).Ghost
+  to_core ν δ = (((ν ∷ [], (κ', (κ'', tt))), (full_share, (q', (q'', tt))), tt, to_in δ, at_in), tt)
 
   abbrev owned_in : ℕ → GName → SProp 𝓤
   owned_in ν δ = sem 𝓛 (owns (Hd.the_row ∷ MutRef (named 0) (ν ∷ []) Marks ∷ ShrSlice (named 1) κ' u8 ∷ MutSlice (named 2) κ'' u8 ∷ []) (to_in δ) at_in)
 
-  goes-core : length h.marks ≡ 512 → (ν : ℕ) (δ : GName) → ent 𝓤 (sep 𝓤 (sep 𝓤 (A.lft (ν ∷ []) full_share) (sep 𝓤 (A.lft κ' q') (sep 𝓤 (A.lft κ'' q'') (sem 𝓛 ftrue)))) (owned_in ν δ)) ((Core 𝓛 at_mem run).pre (to-core ν δ))
-  goes-core there ν δ = qed 𝓛 (((‵ (flft (ν ∷ []) full_share) ⊛ (‵ (flft κ' q') ⊛ (‵ (flft κ'' q'') ⊛ ‵ ftrue))) ⊛ raw (owned_in ν δ)) ∷ []) ∵ says ! there $ split ! $ frame ! $ done !
+  goes_core : length h.marks ≡ 512 → (ν : ℕ) (δ : GName) → ent 𝓤 (sep 𝓤 (sep 𝓤 (A.lft (ν ∷ []) full_share) (sep 𝓤 (A.lft κ' q') (sep 𝓤 (A.lft κ'' q'') (sem 𝓛 ftrue)))) (owned_in ν δ)) ((Core 𝓛 at_mem run).pre (to_core ν δ))
+  goes_core there ν δ = qed 𝓛 (((‵ (flft (ν ∷ []) full_share) ⊛ (‵ (flft κ' q') ⊛ (‵ (flft κ'' q'') ⊛ ‵ ftrue))) ⊛ raw (owned_in ν δ)) ∷ []) ∵ says ! there $ split ! $ frame ! $ done !
 
   -- what it says, with the last marks and the output's last bytes
   abbrev Said : TakenIn → List ℕ → List ℕ → Type 0
-  Said r ms zs = tookOver r ms zs ≡ left
+  Said r ms zs = took_over r ms zs ≡ left
 
   -- of a `TakenIn` that is had: what its fields are
   answer-is : (r : TakenIn) (v : Val) → Is P.the_row r (v ∷ []) → Is N.the_row r.answer (EL.vals N.the_type N'.the_laws r.answer)
   answer-is r v is = (LL.owed P.the_type P'.the_laws r _ is).0
 
-  after_is : (r : TakenIn) (v : Val) → Is P.the_row r (v ∷ []) → Is Hd.the_row r.head (head-vals r.head)
+  after_is : (r : TakenIn) (v : Val) → Is P.the_row r (v ∷ []) → Is Hd.the_row r.head (head_vals r.head)
   after_is r v is = (LL.owed P.the_type P'.the_laws r _ is).1.0
 
   -- the state with another head is a state
-  made : (head : Head) → Is Hd.the_row head (head-vals head) → Is T.the_row (h' h.head) (vals (h' h.head)) → Is T.the_row (h' head) (vals (h' head))
+  made : (head : Head) → Is Hd.the_row head (head_vals head) → Is T.the_row (h' h.head) (vals (h' h.head)) → Is T.the_row (h' head) (vals (h' head))
   made head is g = LL.owes T.the_type T'.the_laws (h' head) (is, (LL.owed T.the_type T'.the_laws (h' h.head) _ g).1)
 
-  says_so : (r : TakenIn) (ms zs : List ℕ) → Said r ms zs → tookBehind r.answer (h' r.head) zs ≡ take_of h store.now output.now
+  says_so : (r : TakenIn) (ms zs : List ℕ) → Said r ms zs → took_behind r.answer (h' r.head) zs ≡ take_of h store.now output.now
   says_so r ms zs e = λ k. record { says = (e k).says; state = h' (e k).state.head; lent = (e k).lent }
 
   exits : (r : TakenIn) (ms zs : List ℕ) → Said r ms zs → length zs ≡ length output.now → Is N.the_row r.answer (EL.vals N.the_type N'.the_laws r.answer)
@@ -167,18 +167,18 @@ module _ {M : Type 1} {𝓤 : Ura M} (𝓛 : Logic 𝓤) (at_mem : Memory → SP
         opens ! tt T.the_row {h = h} b o (λ vs. spelt ! T.the_row (Is T.the_row) (shows 𝓛 T.the_row) vals (LL.tells T.the_type T'.the_laws) full_share h vs b o $
         move ! (1 ∷ []) $ peeks ! T.the_row (Is T.the_row) (shows 𝓛 T.the_row) h (vals h) (λ g. drop ! $
         -- [the state's cell; the open borrow; obs; auth; the slices' tokens; what store and output own; _8; …; _1; …; room for _0; …]
-        assigns ! (of_opd ! (load ! (from ! (hop ! (look ! 20 refl) (fld ! refl (stop !)))) (look_in ! 0 (named-part ! (sub ! 0 refl (whole !)))))) (from ! (stop !)) (init ! 14 refl ((LL.lawful Hd.the_type Hd'.the_laws 𝓛).typed h.head _ (head-is h g)).0) $
+        assigns ! (of_opd ! (load ! (from ! (hop ! (look ! 20 refl) (fld ! refl (stop !)))) (look_in ! 0 (named_part ! (sub ! 0 refl (whole !)))))) (from ! (stop !)) (init ! 14 refl ((LL.lawful Hd.the_type Hd'.the_laws 𝓛).typed h.head _ (head-is h g)).0) $
         assigns ! (addr ! (from ! (hop ! (look ! 20 refl) (fld ! refl (stop !))))) (from ! (stop !)) (init ! 10 refl (tt, tt)) $
         assigns ! (addr ! (from ! (fld ! refl (hop ! (look_in ! 16 (sub ! 0 refl (whole !))) (stop !))))) (from ! (stop !)) (init ! 8 refl (tt, tt)) $
         assigns ! (agg ! (and_then ! (load ! (from ! (stop !)) (look ! 8 refl)) (and_then ! (load ! (from ! (fld ! refl (stop !))) (look_in ! 16 (sub ! 1 refl (whole !)))) (no_more !)))) (from ! (stop !)) (init ! 6 refl (tt, (tt, (record { fits = output-room.0 }, tt)))) $
         -- the state is cut at the field, which is lent for a lifetime ν of the call
         use1 𝓛 (‵ (part_at T.the_row full_share h b o)) (packs T.the_type T'.the_laws 𝓛 full_share h b o T'.the_plain g) $
-        use1 𝓛 (‵ (part_at Marks full_share h.marks b (o + 16)) ⊛ raw (State-Cut 𝓛 (h' h.head) b o)) (state-cut 𝓛 h left.state.marks b o) $ split ! $ lft_new ! tt (λ ν. move ! (1 ∷ []) $
+        use1 𝓛 (‵ (part_at Marks full_share h.marks b (o + 16)) ⊛ raw (StateCut 𝓛 (h' h.head) b o)) (state_cut 𝓛 h left.state.marks b o) $ split ! $ lft_new ! tt (λ ν. move ! (1 ∷ []) $
         use1 𝓛 (later (some (λ (δ : GName). ‵ ((MutRef (named 0) (ν ∷ []) Marks).own_val (y δ) (vptr b (o + 16) ∷ [])) ⊛ ‵ (flent (ν ∷ []) (Body (mem Marks) b (o + 16) δ))))) (lends_ref 𝓛 Marks (named 0) (ν ∷ []) h.marks b (o + 16)) $ await ! tt $ pick ! (λ δ. split ! $
         -- [the field's reference; the lender's part; ν's token; the way back; the open borrow; obs; auth; the slices' tokens; what store and output own; _8; …]
         move ! (2 ∷ 7 ∷ []) $ join ! $ move ! (1 ∷ 7 ∷ []) $ fjoin ! $ owned ! Hd.the_row (Is Hd.the_row) (LL.makes Hd.the_type Hd'.the_plain 𝓛) h.head _ (head-is h g) $ fjoin ! $
-        move ! (1 ∷ 0 ∷ []) $ join ! $ use1 𝓛 (raw ((Core 𝓛 at_mem run).pre (to-core ν δ))) (goes-core (marks-whole h g) ν δ) $
-        calls_at ! fm (Core 𝓛 at_mem run) known (to-core ν δ) (and_then ! (load ! (from ! (stop !)) (look ! 14 refl)) (and_then ! (load ! (from ! (stop !)) (look ! 10 refl)) (and_then ! (load ! (from ! (stop !)) (look ! 18 refl)) (and_then ! (load ! (from ! (stop !)) (look ! 6 refl)) (no_more !))))) (λ w.
+        move ! (1 ∷ 0 ∷ []) $ join ! $ use1 𝓛 (raw ((Core 𝓛 at_mem run).pre (to_core ν δ))) (goes_core (marks_whole h g) ν δ) $
+        calls_at ! fm (Core 𝓛 at_mem run) known (to_core ν δ) (and_then ! (load ! (from ! (stop !)) (look ! 14 refl)) (and_then ! (load ! (from ! (stop !)) (look ! 10 refl)) (and_then ! (load ! (from ! (stop !)) (look ! 18 refl)) (and_then ! (load ! (from ! (stop !)) (look ! 6 refl)) (no_more !))))) (λ w.
         use1 𝓛 (later (some (λ (r : TakenIn). ((‵ (flft (ν ∷ []) full_share) ⊛ (‵ (flft κ' q') ⊛ (‵ (flft κ'' q'') ⊛ ‵ ftrue))) ⊛ ‵ ((P.the_row).own_val r (w ∷ []))) ⊛ raw (ensured 𝓛 core.ended (core.clauses 𝓛 at_mem run) (ν ∷ [], (κ', (κ'', tt))) (to_in δ) tt r)))) (id⊢ 𝓤 _) $ await ! tt $ pick ! (λ r.
         split ! $ move ! (1 ∷ []) $ use1 𝓛 (some (λ (ws : Unit {0} × (List ℕ × (Unit {0} × (List ℕ × Unit {0})))). ‵ (lasts core.ended (ν ∷ [], (κ', (κ'', tt))) (to_in δ) ws) ⊛ raw (fact 𝓤 (Said r ws.1.0 ws.1.1.1.0)))) (id⊢ 𝓤 _) $ pick ! (λ ws.
         split ! $ move ! (1 ∷ []) $ heard ! (Said r ws.1.0 ws.1.1.1.0) (λ e.
@@ -193,7 +193,7 @@ module _ {M : Type 1} {𝓤 : Ura M} (𝓛 : Logic 𝓤) (at_mem : Memory → SP
         rewrite ! 0 (λ (ms : List ℕ). ‵ (part_at Marks full_share ms b (o + 16))) (ap (λ (a : Outcome). a.state.marks) e) refl $ move ! (0 ∷ 4 ∷ []) $ apply ! $
         use1 𝓛 (given (Is T.the_row (h' h.head) (vals (h' h.head))) (‵ (cell_at full_share (T.the_row).mir (vals (h' h.head)) b o))) (unpacks T.the_type T'.the_laws 𝓛 full_share (h' h.head) b o) $ learn ! (λ g'.
         -- [the state's cell; the slices' tokens; the output's last bytes; true; the open borrow; obs; auth; _8; …]
-        assigns ! (of_opd ! (load ! (from ! (fld ! refl (stop !))) (look_in ! 13 (sub ! 1 refl (whole !))))) (from ! (hop ! (look ! 21 refl) (fld ! refl (stop !)))) (store_in ! 0 (named-part ! (sub ! 0 refl (whole !))) ((LL.lawful Hd.the_type Hd'.the_laws 𝓛).typed r.head _ (after_is r w is)).0) $
+        assigns ! (of_opd ! (load ! (from ! (fld ! refl (stop !))) (look_in ! 13 (sub ! 1 refl (whole !))))) (from ! (hop ! (look ! 21 refl) (fld ! refl (stop !)))) (store_in ! 0 (named_part ! (sub ! 0 refl (whole !))) ((LL.lawful Hd.the_type Hd'.the_laws 𝓛).typed r.head _ (after_is r w is)).0) $
         assigns ! (of_opd ! (load ! (from ! (fld ! refl (stop !))) (look_in ! 13 (sub ! 0 refl (whole !))))) (from ! (stop !)) (init ! 23 refl ((EL.lawful N.the_type N'.the_laws 𝓛 tt).typed r.answer _ (answer-is r w is)).0) $
         -- the borrow is closed at the new state
         owned ! T.the_row (Is T.the_row) (LL.makes T.the_type T'.the_plain 𝓛) (h' r.head) _ (made r.head (after_is r w is) g') $ move ! (1 ∷ 0 ∷ 5 ∷ 6 ∷ 7 ∷ []) $ closes ! tt T.the_row (h' r.head) (vals (h' r.head)) b o $
@@ -204,8 +204,8 @@ module _ {M : Type 1} {𝓤 : Ura M} (𝓛 : Logic 𝓤) (at_mem : Memory → SP
 module _ {M : Type 1} {𝓤 : Ura M} (𝓛 : Logic 𝓤) (mem : Memory → SProp 𝓤) (run : Routine → Fun 𝓤) where
   open 𝓛 use {H}
 
-  f-walks : (C : Calls 𝓤 H) (Λ : Loops 𝓤 H) → FmC 𝓤 H 𝓛.laws C → Triple 𝓤 (C #receiver-calls·take-in) (Core 𝓛 mem run) → Walks 𝓛 f.ended stayed (WpFn 𝓤 H C Λ code.function) (f.clauses 𝓛 mem run)
-  f-walks C Λ fm known = walked 𝓛 f.ended stayed (f.clauses 𝓛 mem run) (WpFn 𝓤 H C Λ code.function) (λ κs. (shr_vals, (shr_slice_vals, (shr_slice_vals, tt))))
+  f_walks : (C : Calls 𝓤 H) (Λ : Loops 𝓤 H) → FmC 𝓤 H 𝓛.laws C → Triple 𝓤 (C #receiver-calls·take-in) (Core 𝓛 mem run) → Walks 𝓛 f.ended stayed (WpFn 𝓤 H C Λ code.function) (f.clauses 𝓛 mem run)
+  f_walks C Λ fm known = walked 𝓛 f.ended stayed (f.clauses 𝓛 mem run) (WpFn 𝓤 H C Λ code.function) (λ κs. (shr_vals, (shr_slice_vals, (shr_slice_vals, tt))))
       (λ κs. (mut_Tells (named 0) κs.0 T.the_row, (shr_slice_Tells (named 1) κs.1.0 u8, (mut_slice_Tells (named 2) κs.1.1.0 u8, tt))))
       (λ κs qs bounds a g are. via 𝓤 _ (fst∗ 𝓤 _ (emp 𝓤)) (walk 𝓛 mem run κs.0 κs.1.0 κs.1.1.0 bounds qs.0 qs.1.0 qs.1.1.0 a.0.ref_ptr.0 a.0.ref_ptr.1 a.0.ghost_name a.0.now a.1.0 a.1.1.0 are.1.0.0.1 are.1.1.0.0.1 C Λ fm known))
 
@@ -213,7 +213,7 @@ f_meets : {M : Type 1} {𝓤 : Ura M} (𝓛 : Logic 𝓤) → (mem : Memory → 
     → Meets 𝓛 f.signature (WpFn 𝓤 𝓛.H 𝓣.C 𝓣.Λ code.function) (f.spec 𝓛 mem run)
 f_meets {𝓤 = 𝓤} 𝓛 mem run 𝓣 known =
     walk_Meets 𝓛 f.ended stayed (Goes-ref 𝓛 3 0 tt (plain (λ _. T.the_row)), (Goes-dropped 𝓛 3 (shr_slice_of (1 ∷ []) tt (plain (λ _. u8))) yes (λ κs x f. refl), (Goes-gave_slice 𝓛 3 2 tt (plain (λ _. u8)), tt))) (f.clauses 𝓛 mem run)
-    (WpFn 𝓤 𝓛.H 𝓣.C 𝓣.Λ code.function) (WpFn-mono 𝓤 𝓛.H 𝓛.laws 𝓣 code.function) (f-walks 𝓛 mem run 𝓣.C 𝓣.Λ (fm_of 𝓤 𝓛.H 𝓛.laws 𝓣) known)
+    (WpFn 𝓤 𝓛.H 𝓣.C 𝓣.Λ code.function) (WpFn-mono 𝓤 𝓛.H 𝓛.laws 𝓣 code.function) (f_walks 𝓛 mem run 𝓣.C 𝓣.Λ (fm_of 𝓤 𝓛.H 𝓛.laws 𝓣) known)
 
 pub take-lent-spec : {M : Type 1} → stated.statement M
 unfolding code.routine tables_of

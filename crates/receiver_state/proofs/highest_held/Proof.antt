@@ -1,5 +1,5 @@
 -- `receiver_state::highest_held` meets its contract: the second test is read off only where the first fails. Assumes nothing.
-use mathlib.Core.Bool.{or-true, or-false}
+use mathlib.Core.Bool.{or-true, or_false}
 use borrow.Author.Rules.{rules}
 use borrow.Author.Tests.{eq-eqb, ne_eqb}
 use Rattle.receiver_state.proofs.highest_held.Statement.{statement}
@@ -21,7 +21,7 @@ shared-slice-read-result : tie.Need-shared-slice-read-result
 shared-slice-read-result c = search rules
 
 returns-2 : tie.Need-returns-2
-returns-2 c = simp (ne_eqb _ _ c.before.before.if1.false, or-false)
+returns-2 c = simp (ne_eqb _ _ c.before.before.if1.false, or_false)
 
 pub highest-held-spec : {M : Type 1} → statement M
 highest-held-spec =

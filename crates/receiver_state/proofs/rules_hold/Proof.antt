@@ -3,7 +3,7 @@ use mathlib.Core.Path.{sym, ◌∙◌}
 use native.Mathlib.Omega.{arith}
 use borrow.Author.Tests.{not-true, not-false}
 use Rattle.terms.proofs.Laws.{refuted}
-use Rattle.receiver_state.proofs.Facts.{ruled, held-broken, rules-left}
+use Rattle.receiver_state.proofs.Facts.{ruled, held_broken, rules-left}
 use borrow.Author.Rules.{rules}
 use Rattle.receiver_state.proofs.rules_hold.Statement.{statement}
 use Rattle.receiver_state.proofs.rules_hold.Tie as tie
@@ -33,7 +33,7 @@ highest-held-requires : tie.Need-highest-held-requires
 highest-held-requires c κs = search rules
 
 returns-6 : tie.Need-returns-6
-returns-6 c = held-broken _ (sym c.before.highest-held.ensures ∙ not-true _ c.if6.true)
+returns-6 c = held_broken _ (sym c.before.highest-held.ensures ∙ not-true _ c.if6.true)
 
 slots-hold-requires : tie.Need-slots-hold-requires
 slots-hold-requires c κs = search rules

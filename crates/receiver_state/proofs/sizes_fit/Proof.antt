@@ -2,7 +2,7 @@
 use mathlib.Core.Path.{sym, ◌∙◌}
 use borrow.Author.Rules.{rules}
 use borrow.Author.Tests.{not-true, not-false}
-use Rattle.receiver_state.specs.Rules.{sizesFit}
+use Rattle.receiver_state.specs.Rules.{sizes_fit}
 use Rattle.receiver_state.proofs.sizes_fit.Statement.{statement}
 use Rattle.receiver_state.proofs.sizes_fit.Tie as tie
 
@@ -10,14 +10,14 @@ slot-fits-requires : tie.Need-slot-fits-requires
 slot-fits-requires c κs = search rules
 
 returns : tie.Need-returns
-unfolding sizesFit
+unfolding sizes_fit
 returns c = simp (sym c.before.slot-fits.ensures ∙ not-true _ c.if1.true)
 
 mul-result : tie.Need-overflow-mul-result
 mul-result c = search rules
 
 returns-2 : tie.Need-returns-2
-unfolding sizesFit
+unfolding sizes_fit
 returns-2 c = simp (sym c.before.slot-fits.ensures ∙ not-false _ c.if1.false)
 
 pub sizes-fit-spec : {M : Type 1} → statement M

@@ -1,7 +1,7 @@
 -- `receiver_state::start` meets its contract: at each return the tests that led there decide the ladder. Assumes nothing.
 use mathlib.Core.Path.{sym, ◌∙◌}
 use borrow.Author.Tests.{eq-eqb, ne_eqb, not-true, not-false}
-use Rattle.receiver_state.specs.Start.{startSaid}
+use Rattle.receiver_state.specs.Start.{start_said}
 use borrow.Author.Rules.{rules}
 use Rattle.receiver_state.proofs.start.Statement.{statement}
 use Rattle.receiver_state.proofs.start.Tie as tie
@@ -13,7 +13,7 @@ empty-requires : tie.Need-empty-requires
 empty-requires c κs = search rules
 
 returns : tie.Need-returns
-unfolding startSaid
+unfolding start_said
 returns c =
     let e = sym c.before.before.sizes-fit.ensures ∙ not-true _ c.before.if1.true in
     rw c.empty.ensures (simp e)
@@ -22,7 +22,7 @@ empty-requires-2 : tie.Need-empty-requires-2
 empty-requires-2 c κs = search rules
 
 returns-2 : tie.Need-returns-2
-unfolding startSaid
+unfolding start_said
 returns-2 c =
     let e = sym c.before.before.before.before.sizes-fit.ensures ∙ not-false _ c.before.before.before.if1.false in
     let f = eq-eqb _ _ c.before.if2.true in
@@ -35,7 +35,7 @@ empty-requires-3 : tie.Need-empty-requires-3
 empty-requires-3 c κs = search rules
 
 returns-3 : tie.Need-returns-3
-unfolding startSaid
+unfolding start_said
 returns-3 c =
     let e = sym c.before.before.before.before.before.sizes-fit.ensures ∙ not-false _ c.before.before.before.before.if1.false in
     let f = ne_eqb _ _ c.before.before.if2.false in

@@ -3,7 +3,7 @@ use Prim.Native.Nat.{◌-◌}
 use mathlib.Core.Path.{refl, ◌∙◌}
 use borrow.Author.Rules.{rules}
 use lib.ListN.{length}
-use Rattle.terms.proofs.Scan.{Scanned, scan-start, scan-more, scan-end, whole}
+use Rattle.terms.proofs.Scan.{Scanned, scan_start, scan_more, scan_end, whole}
 use Rattle.receiver_state.specs.Slots.{at_most}
 use Rattle.receiver_state.proofs.within.Statement.{statement}
 use Rattle.receiver_state.proofs.within.Tie as tie
@@ -17,7 +17,7 @@ decreases-loop marks top ok₀ i₀ ok i = length marks - i
 loop-holds : tie.Need-loop-init invariant-loop decreases-loop
 loop-holds c =
     let l = c.args.marks.now in
-    scan-start (at_most c.args.top) l (length l) 0 (length l) (length l) refl (search rules)
+    scan_start (at_most c.args.top) l (length l) 0 (length l) (length l) refl (search rules)
 
 mul_ok : tie.Need-overflow-mul-ok invariant-loop decreases-loop
 mul_ok c = search rules
@@ -35,13 +35,13 @@ loop-again : tie.Need-loop-preserved invariant-loop decreases-loop
 loop-again c =
     let h = c.before.before in
     let l = h.before.args.marks.now in
-    scan-more (at_most h.before.args.top) l (length l) 0 (length l) (length l) h.loop.ok h.loop.i h.loop.invariant c.before.loop-test.true
+    scan_more (at_most h.before.args.top) l (length l) 0 (length l) (length l) h.loop.ok h.loop.i h.loop.invariant c.before.loop-test.true
 
 returns : tie.Need-returns invariant-loop decreases-loop
 returns c =
     let h = c.before in
     let l = h.before.args.marks.now in
-    scan-end (at_most h.before.args.top) l (length l) 0 (length l) (length l) h.loop.ok h.loop.i h.loop.invariant c.loop-test.false
+    scan_end (at_most h.before.args.top) l (length l) 0 (length l) (length l) h.loop.ok h.loop.i h.loop.invariant c.loop-test.false
     ∙ whole (at_most h.before.args.top) l
 
 pub within-spec : {M : Type 1} → statement M

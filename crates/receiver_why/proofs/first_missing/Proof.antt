@@ -2,14 +2,14 @@
 use Prim.Native.Nat.{◌+◌, ◌-◌, ◌≤◌}
 use mathlib.Core.Path.{◌≡◌, refl, ◌∙◌}
 use native.Mathlib.Omega.{arith}
-use Rattle.receiver_why.specs.Reasons.{firstMissing}
-use Rattle.receiver_why.proofs.Smallest.{stop-here, go_on, past_end}
+use Rattle.receiver_why.specs.Reasons.{first_missing}
+use Rattle.receiver_why.proofs.Smallest.{stop_here, go_on, past_end}
 use borrow.Author.Rules.{rules}
 use Rattle.receiver_why.proofs.first_missing.Statement.{statement}
 use Rattle.receiver_why.proofs.first_missing.Tie as tie
 
 abbrev invariant-loop : tie.invariant-loop
-invariant-loop marks number₀ last number = (number ≤ last + 1) × (firstMissing marks number (last + 1 - number) ≡ firstMissing marks number₀ (last + 1 - number₀))
+invariant-loop marks number₀ last number = (number ≤ last + 1) × (first_missing marks number (last + 1 - number) ≡ first_missing marks number₀ (last + 1 - number₀))
 
 abbrev decreases-loop : tie.decreases-loop
 decreases-loop marks number₀ last number = last + 1 - number
@@ -30,7 +30,7 @@ returns : tie.Need-returns invariant-loop decreases-loop
 returns c =
     let b = c.before.before.before in
     let a = b.before.args in
-    stop-here a.marks.now b.loop.number a.highest.0 (omega arith) c.if1.true ∙ b.loop.invariant.1
+    stop_here a.marks.now b.loop.number a.highest.0 (omega arith) c.if1.true ∙ b.loop.invariant.1
 
 add-number : tie.Need-overflow-add-number invariant-loop decreases-loop
 add-number c = search rules

@@ -7,20 +7,20 @@ use native.Mathlib.Omega.{arith}
 use borrow.Author.Tests.{not-true, not-false}
 use Rattle.terms.specs.Answers.{Said, values}
 use Rattle.receiver_state.specs.Answers.{◌over◌}
-use Rattle.receiver_state.specs.Rules.{rulesOf, slotFits}
+use Rattle.receiver_state.specs.Rules.{rules_of, slot_fits}
 use Rattle.receiver_state.proofs.Facts.{ruled}
-use Rattle.receiver_why.specs.Reasons.{belowStart, wasTaken, isReady, behindGap, neverCame, notYetSeen, beyondSpan}
-use Rattle.receiver_why.proofs.Cases.{below-is, taken_is, beyond-is, unseen-is, never-is, gap_is, ready-is}
-use Rattle.receiver_why.proofs.Ways.{why-11, why-10, why-last, why-case}
+use Rattle.receiver_why.specs.Reasons.{below_start, was_taken, is_ready, behind_gap, never_came, not_yet_seen, beyond_span}
+use Rattle.receiver_why.proofs.Cases.{below-is, taken_is, beyond_is, unseen-is, never_is, gap_is, ready_is}
+use Rattle.receiver_why.proofs.Ways.{why_11, why_10, why_last, why_case}
 use borrow.Author.Rules.{rules}
 use Rattle.receiver_why.proofs.stands.Statement.{statement}
 use Rattle.receiver_why.proofs.stands.Tie as tie
 
 -- past the first two tests
 judged : (c : tie.Else2) → let a = c.before.before.before.before.before.args in
-    (rulesOf (a.h over a.marks.now) ≡ true) × (slotFits a.h.slot ≡ true)
+    (rules_of (a.h over a.marks.now) ≡ true) × (slot_fits a.h.slot ≡ true)
 judged c = (
-  sym c.before.before.before.rules-hold.ensures ∙ not-false _ c.before.before.if1.false,
+  sym c.before.before.before.rules_hold.ensures ∙ not-false _ c.before.before.if1.false,
   sym c.before.slot-fits.ensures ∙ not-false _ c.if2.false,
 )
 
@@ -28,36 +28,36 @@ rules-hold-requires : tie.Need-rules-hold-requires
 rules-hold-requires c κs = search rules
 
 returns : tie.Need-returns
-returns c = why-11 _ _ (sym c.before.rules-hold.ensures ∙ not-true _ c.if1.true)
+returns c = why_11 _ _ (sym c.before.rules_hold.ensures ∙ not-true _ c.if1.true)
 
 slot-fits-requires : tie.Need-slot-fits-requires
 slot-fits-requires c κs = search rules
 
 returns-2 : tie.Need-returns-2
-returns-2 c = why-10 _ _ (sym c.before.before.before.rules-hold.ensures ∙ not-false _ c.before.before.if1.false) (sym c.before.slot-fits.ensures ∙ not-true _ c.if2.true)
+returns-2 c = why_10 _ _ (sym c.before.before.before.rules_hold.ensures ∙ not-false _ c.before.before.if1.false) (sym c.before.slot-fits.ensures ∙ not-true _ c.if2.true)
 
 returns-3 : tie.Need-returns-3
-returns-3 c = let j = judged c.before in why-last _ _ j.0 j.1 c.if3.true
+returns-3 c = let j = judged c.before in why_last _ _ j.0 j.1 c.if3.true
 
 returns-4 : tie.Need-returns-4
-returns-4 c = let j = judged c.before.before in why-case _ _ j.0 j.1 c.before.if3.false belowStart (below-is _ _ (omega arith))
+returns-4 c = let j = judged c.before.before in why_case _ _ j.0 j.1 c.before.if3.false below_start (below-is _ _ (omega arith))
 
 returns-5 : tie.Need-returns-5
 returns-5 c =
     let j = judged c.before.before.before in
-    why-case _ _ j.0 j.1 c.before.before.if3.false wasTaken (taken_is _ _ (omega arith) (omega arith))
+    why_case _ _ j.0 j.1 c.before.before.if3.false was_taken (taken_is _ _ (omega arith) (omega arith))
 
 returns-6 : tie.Need-returns-6
 returns-6 c =
     let e = c.before.before.before in
     let j = judged e.before in
-    why-case _ _ j.0 j.1 e.if3.false beyondSpan (beyond-is _ _ (omega arith) (omega arith) (omega arith))
+    why_case _ _ j.0 j.1 e.if3.false beyond_span (beyond_is _ _ (omega arith) (omega arith) (omega arith))
 
 returns-7 : tie.Need-returns-7
 returns-7 c =
     let e = c.before.before.before.before in
     let j = judged e.before in
-    why-case _ _ j.0 j.1 e.if3.false notYetSeen (unseen-is _ _ (omega arith) (omega arith) (omega arith) (omega arith))
+    why_case _ _ j.0 j.1 e.if3.false not_yet_seen (unseen-is _ _ (omega arith) (omega arith) (omega arith) (omega arith))
 
 cast-at : tie.Need-overflow-cast-at
 cast-at c = search rules
@@ -72,7 +72,7 @@ returns-8 : tie.Need-returns-8
 returns-8 c =
     let e = c.before.before.before.before.before.before in
     let j = judged e.before in
-    why-case _ _ j.0 j.1 e.if3.false neverCame (never-is _ _ (omega arith) (omega arith) (omega arith) (omega arith) c.if8.true)
+    why_case _ _ j.0 j.1 e.if3.false never_came (never_is _ _ (omega arith) (omega arith) (omega arith) (omega arith) c.if8.true)
 
 first-missing-requires : tie.Need-first-missing-requires
 first-missing-requires c κs =
@@ -87,7 +87,7 @@ returns-9 c =
     let j = judged e.before in
     let is = m.first-missing.ensures in
     ap (λ (n : ℕ). values (5 ∷ n ∷ [])) is
-    ∙ why-case _ _ j.0 j.1 e.if3.false behindGap (gap_is _ _ (omega arith) (omega arith) (omega arith) (omega arith) m.before.if8.false (omega (arith, is)))
+    ∙ why_case _ _ j.0 j.1 e.if3.false behind_gap (gap_is _ _ (omega arith) (omega arith) (omega arith) (omega arith) m.before.if8.false (omega (arith, is)))
 
 returns-10 : tie.Need-returns-10
 returns-10 c =
@@ -95,7 +95,7 @@ returns-10 c =
     let e = m.before.before.before.before.before.before.before in
     let j = judged e.before in
     let is = m.first-missing.ensures in
-    why-case _ _ j.0 j.1 e.if3.false isReady (ready-is _ _ (omega arith) (omega arith) (omega arith) (omega arith) m.before.if8.false (omega (arith, is)))
+    why_case _ _ j.0 j.1 e.if3.false is_ready (ready_is _ _ (omega arith) (omega arith) (omega arith) (omega arith) m.before.if8.false (omega (arith, is)))
 
 pub stands-spec : {M : Type 1} → statement M
 stands-spec =

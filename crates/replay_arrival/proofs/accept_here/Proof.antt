@@ -1,6 +1,6 @@
 -- `replay_arrival::accept_here` meets its contract. Assumes nothing.
 use native.Mathlib.Omega.{arith}
-use Rattle.replay_arrival.proofs.Ways.{accept-none, accept-some}
+use Rattle.replay_arrival.proofs.Ways.{accept_none, accept-some}
 use borrow.Author.Rules.{rules}
 use Rattle.replay_arrival.proofs.accept_here.Statement.{statement}
 use Rattle.replay_arrival.proofs.accept_here.Tie as tie
@@ -8,7 +8,7 @@ use Rattle.replay_arrival.proofs.accept_here.Tie as tie
 returns : tie.Need-returns
 returns c =
     let a = c.before.before.before.before.before.args in
-    accept-none a.p a.packet.now a.receiver a.store.now (omega arith)
+    accept_none a.p a.packet.now a.receiver a.store.now (omega arith)
 
 payload-requires : tie.Need-payload-requires
 payload-requires c κs = search rules

@@ -2,7 +2,7 @@
 use Prim.Native.Nat.{◌-◌}
 use native.Mathlib.Omega.{arith}
 use borrow.Author.Rules.{rules}
-use Rattle.replay_arrival.proofs.Ways.{Listed, listed_start, listed_more, listed-end}
+use Rattle.replay_arrival.proofs.Ways.{Listed, listed_start, listed_more, listed_end}
 use Rattle.replay_arrival.proofs.nack_numbers.Statement.{statement}
 use Rattle.replay_arrival.proofs.nack_numbers.Tie as tie
 
@@ -57,7 +57,7 @@ returns : tie.Need-returns invariant-loop decreases-loop
 returns c =
     let l = c.before.loop in
     let a = c.before.before.before.before.before.args in
-    (l.invariant.small, listed-end a.packet.now a.numbers.now l.numbers c.before.before.be8.result l.i l.invariant (omega arith))
+    (l.invariant.small, listed_end a.packet.now a.numbers.now l.numbers c.before.before.be8.result l.i l.invariant (omega arith))
 
 pub nack-numbers-spec : {M : Type 1} → statement M
 nack-numbers-spec =

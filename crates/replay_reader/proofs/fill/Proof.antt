@@ -1,7 +1,7 @@
 -- `replay_reader::fill` meets its contract: it copies what the data lacks, or all that is given, behind the bytes that are there. Assumes nothing.
 use native.Mathlib.Omega.{arith}
 use mathlib.Core.Logic.{⊎_elim}
-use Rattle.replay_reader.proofs.Filling.{fills-short, fills-full, fills-unfit}
+use Rattle.replay_reader.proofs.Filling.{fills_short, fills_full, fills_unfit}
 use borrow.Author.Rules.{rules}
 use Rattle.replay_reader.proofs.fill.Statement.{statement}
 use Rattle.replay_reader.proofs.fill.Tie as tie
@@ -43,7 +43,7 @@ returns : tie.Need-returns
 returns c =
     let s = c.before.before.before.before.before.before.before.before in
     let a = s.args in
-    fills-short a.whole a.buffer.now a.portion.now a.kind a.size a.there a.at s.requires.0 s.requires.1 s.requires.2 s.requires.3
+    fills_short a.whole a.buffer.now a.portion.now a.kind a.size a.there a.at s.requires.0 s.requires.1 s.requires.2 s.requires.3
     c.before.before.put-bytes.new.0 (omega arith) c.before.before.put-bytes.ensures
 
 shared-slice-read-if3 : tie.Need-shared-slice-read-if3
@@ -53,7 +53,7 @@ returns-2 : tie.Need-returns-2
 returns-2 c =
     let s = c.before.before.before.before.before.before in
     let a = s.args in
-    fills-unfit a.whole a.buffer.now a.portion.now a.kind a.size a.there a.at s.requires.0 s.requires.1 s.requires.2 s.requires.3 (omega arith) (omega arith) (omega arith)
+    fills_unfit a.whole a.buffer.now a.portion.now a.kind a.size a.there a.at s.requires.0 s.requires.1 s.requires.2 s.requires.3 (omega arith) (omega arith) (omega arith)
 
 add-end : tie.Need-overflow-add-end
 add-end c = search rules
@@ -86,7 +86,7 @@ returns-3 : tie.Need-returns-3
 returns-3 c =
     let s = c.before.before.before.before.before.before.before.before.before in
     let a = s.args in
-    fills-full a.whole a.buffer.now a.portion.now a.kind a.size a.there a.at s.requires.0 s.requires.1 s.requires.2 s.requires.3
+    fills_full a.whole a.buffer.now a.portion.now a.kind a.size a.there a.at s.requires.0 s.requires.1 s.requires.2 s.requires.3
     c.before.before.put-bytes2.new.0 (omega arith) (λ p. ⊎_elim (λ w. omega arith) (λ w. omega arith) c.before.before.before.before.before.if2.branch) c.before.before.put-bytes2.ensures
 
 pub fill_spec : {M : Type 1} → statement M

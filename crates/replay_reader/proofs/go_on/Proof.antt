@@ -6,8 +6,8 @@ use mathlib.Core.List.{List}
 use lib.ListN.{length, get_or}
 use borrow.Author.Rules.{rules}
 use native.Mathlib.Omega.{arith}
-use Rattle.replay_reader.proofs.Facts.{data-there, below-data}
-use Rattle.replay_reader.proofs.Turns.{Along, along-start, along-next, along-refused, along-complete, along-data, along-end}
+use Rattle.replay_reader.proofs.Facts.{data_there_lem, below_data}
+use Rattle.replay_reader.proofs.Turns.{Along, along_start, along_next, along_refused, along_complete, along_data, along_end}
 use Rattle.replay_reader.proofs.go_on.Statement.{statement}
 use Rattle.replay_reader.proofs.go_on.Tie as tie
 
@@ -18,13 +18,13 @@ abbrev decreases-loop : tie.decreases-loop
 decreases-loop whole portion buffer₀ r₀ at₀ buffer r at = length portion - at
 
 loop-holds : tie.Need-loop-init invariant-loop decreases-loop
-loop-holds c = let s = c.before.before in along-start s.args.whole s.args.portion.now s.args.buffer.now s.requires.0
+loop-holds c = let s = c.before.before in along_start s.args.whole s.args.portion.now s.args.buffer.now s.requires.0
 
 fill-requires : tie.Need-fill-requires invariant-loop decreases-loop
 fill-requires c κs =
     let l = c.before.before.before.before.loop in
     let s = c.before.before.before.before.before.before.before in
-    let t = data-there l.r l.invariant.keeps (omega arith) in
+    let t = data_there_lem l.r l.invariant.keeps (omega arith) in
     (t.less, rw l.invariant.lent (omega (arith, t.wide, s.requires.1)), l.invariant.inside, t.fits)
 
 same_length : tie.Need-same-length invariant-loop decreases-loop
@@ -36,7 +36,7 @@ returns : tie.Need-returns invariant-loop decreases-loop
 returns c =
     let l = c.before.before.before.before.before.before.before.loop in
     let a = c.before.before.before.before.before.before.before.before.before.before.args in
-    along-data a.whole a.portion.now a.buffer.now l.buffer l.r l.at l.invariant (omega arith) _ c.before.before.fill.ensures
+    along_data a.whole a.portion.now a.buffer.now l.buffer l.r l.at l.invariant (omega arith) _ c.before.before.fill.ensures
 
 shared-slice-read-byte-read : tie.Need-shared-slice-read-byte-read invariant-loop decreases-loop
 shared-slice-read-byte-read c = search rules
@@ -44,7 +44,7 @@ shared-slice-read-byte-read c = search rules
 byte-read-requires : tie.Need-byte-read-requires invariant-loop decreases-loop
 byte-read-requires c κs =
     let l = c.before.before.before.before.loop in
-    (l.invariant.keeps, below-data l.r l.invariant.keeps (omega arith))
+    (l.invariant.keeps, below_data l.r l.invariant.keeps (omega arith))
 
 enum-known-why : tie.Need-enum-known-why invariant-loop decreases-loop
 enum-known-why c = search rules
@@ -58,7 +58,7 @@ returns-2 : tie.Need-returns-2 invariant-loop decreases-loop
 returns-2 c =
     let l = c.before.before.before.before.before.before.before.before.loop in
     let a = c.before.before.before.before.before.before.before.before.before.before.before.args in
-    along-refused a.whole a.portion.now a.buffer.now l.buffer l.r l.at l.invariant (omega arith) (get_or a.portion.now l.at 0) refl
+    along_refused a.whole a.portion.now a.buffer.now l.buffer l.r l.at l.invariant (omega arith) (get_or a.portion.now l.at 0) refl
     c.before.before.before.byte-read.result c.before.before.before.byte-read.ensures c.before.why.given.0.0 c.before.why.given.1
 
 enum-known-kind : tie.Need-enum-known-kind invariant-loop decreases-loop
@@ -76,7 +76,7 @@ returns-3 : tie.Need-returns-3 invariant-loop decreases-loop
 returns-3 c =
     let l = c.before.before.before.before.before.before.before.before.loop in
     let a = c.before.before.before.before.before.before.before.before.before.before.before.args in
-    along-complete a.whole a.portion.now a.buffer.now l.buffer l.r l.at l.invariant (omega arith) (get_or a.portion.now l.at 0) refl
+    along_complete a.whole a.portion.now a.buffer.now l.buffer l.r l.at l.invariant (omega arith) (get_or a.portion.now l.at 0) refl
     c.before.before.before.byte-read.result c.before.before.before.byte-read.ensures c.before.kind.given.0.0 c.before.kind.given.1
 
 enum-known-next : tie.Need-enum-known-next invariant-loop decreases-loop
@@ -92,7 +92,7 @@ loop-again : tie.Need-loop-preserved invariant-loop decreases-loop
 loop-again c =
     let l = c.before.before.before.before.before.before.before.before.loop in
     let a = c.before.before.before.before.before.before.before.before.before.before.before.args in
-    along-next a.whole a.portion.now a.buffer.now l.buffer l.r l.at l.invariant (omega arith) (get_or a.portion.now l.at 0) refl
+    along_next a.whole a.portion.now a.buffer.now l.buffer l.r l.at l.invariant (omega arith) (get_or a.portion.now l.at 0) refl
     c.before.before.before.byte-read.result c.before.before.before.byte-read.ensures c.before.next.given.0.0 c.before.next.given.1
 
 same-length-4 : tie.Need-same-length-4 invariant-loop decreases-loop
@@ -105,7 +105,7 @@ returns-4 c =
     let l = c.before.loop in
     let s = c.before.before.before.before in
     let a = s.args in
-    along-end a.whole a.portion.now a.buffer.now l.buffer l.r l.at l.invariant s.requires.1 (omega arith)
+    along_end a.whole a.portion.now a.buffer.now l.buffer l.r l.at l.invariant s.requires.1 (omega arith)
 
 pub go-on-spec : {M : Type 1} → statement M
 go-on-spec =

@@ -2,7 +2,7 @@
 use mathlib.Core.Path.{sym, ◌∙◌}
 use borrow.Author.Tests.{not-true, not-false}
 use borrow.Author.Rules.{rules}
-use Rattle.replay_reader.proofs.Ways.{kind-out, kind-in}
+use Rattle.replay_reader.proofs.Ways.{kind_out, kind_in}
 use Rattle.replay_reader.proofs.kind_byte.Statement.{statement}
 use Rattle.replay_reader.proofs.kind_byte.Tie as tie
 
@@ -15,12 +15,12 @@ has-place-requires c κs = search rules
 returns : tie.Need-returns
 returns c =
     let a = c.before.before.before.args in
-    kind-out a.first c.before.before.kind-of.result a.byte c.before.before.kind-of.ensures.0 (sym c.before.has-place.ensures ∙ not-true _ c.if1.true)
+    kind_out a.first c.before.before.kind-of.result a.byte c.before.before.kind-of.ensures.0 (sym c.before.has-place.ensures ∙ not-true _ c.if1.true)
 
 returns-2 : tie.Need-returns-2
 returns-2 c =
     let a = c.before.before.before.args in
-    kind-in a.first c.before.before.kind-of.result a.byte c.before.before.kind-of.ensures.0 (sym c.before.has-place.ensures ∙ not-false _ c.if1.false)
+    kind_in a.first c.before.before.kind-of.result a.byte c.before.before.kind-of.ensures.0 (sym c.before.has-place.ensures ∙ not-false _ c.if1.false)
 
 pub kind-byte-spec : {M : Type 1} → statement M
 kind-byte-spec = tie.close (tie.spec kind-of-requires has-place-requires returns returns-2)

@@ -1,6 +1,6 @@
 -- `sender_acks::acks` meets its contract: the judge refuses, or nothing keeps it from being done. Assumes nothing.
 use mathlib.Core.Path.{◌∙◌}
-use Rattle.sender_acks.proofs.Freeing.{acks-kept, acks-pass, acks-rules}
+use Rattle.sender_acks.proofs.Freeing.{acks-kept, acks_pass, acks-rules}
 use borrow.Author.Rules.{rules}
 use Rattle.sender_acks.proofs.acks.Statement.{statement}
 use Rattle.sender_acks.proofs.acks.Tie as tie
@@ -30,7 +30,7 @@ returns-2 : tie.Need-returns-2
 returns-2 c =
     let j = c.before.before.before in
     let a = j.before.before.args in
-    c.acks-done.ensures ∙ acks-pass a.s a.ack-through.0 a.nacks.now a.clock j.judge-acks.result j.judge-acks.ensures c.before.enum_told.given.1
+    c.acks-done.ensures ∙ acks_pass a.s a.ack-through.0 a.nacks.now a.clock j.judge-acks.result j.judge-acks.ensures c.before.enum_told.given.1
 
 pub acks-spec : {M : Type 1} → statement M
 acks-spec =

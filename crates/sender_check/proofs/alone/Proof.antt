@@ -2,7 +2,7 @@
 use mathlib.Core.Path.{◌∙◌}
 use native.Mathlib.Nat.{sub-zero}
 use borrow.Author.Tests.{eq-eqb, ne_eqb}
-use Rattle.sender_check.specs.Steps.{aloneAt}
+use Rattle.sender_check.specs.Steps.{alone_at}
 use borrow.Author.Rules.{rules}
 use Rattle.sender_check.proofs.alone.Statement.{statement}
 use Rattle.sender_check.proofs.alone.Tie as tie
@@ -14,7 +14,7 @@ shared-slice-read-x : tie.Need-shared-slice-read-x
 shared-slice-read-x c = search rules
 
 returns : tie.Need-returns
-unfolding aloneAt
+unfolding alone_at
 returns c = simp (eq-eqb _ _ c.if1.true)
 
 sub-absent : tie.Need-overflow-sub-absent
@@ -30,7 +30,7 @@ absent-requires : tie.Need-absent-requires
 absent-requires c κs = search rules
 
 returns-2 : tie.Need-returns-2
-unfolding aloneAt
+unfolding alone_at
 returns-2 c = c.absent.ensures ∙ simp (sub-zero, ne_eqb _ _ c.before.before.if1.false)
 
 pub alone-spec : {M : Type 1} → statement M

@@ -2,21 +2,21 @@
 use Prim.Native.Nat.{◌-◌, ◌≤◌}
 use mathlib.Core.Path.{◌≡◌}
 use native.Mathlib.Omega.{arith}
-use Rattle.sender_check.specs.Steps.{every, holdsAt}
-use Rattle.sender_check.proofs.Every.{every-none, every-turn, every-last}
+use Rattle.sender_check.specs.Steps.{every, holds_at}
+use Rattle.sender_check.proofs.Every.{every_none, every_turn, every_last}
 use borrow.Author.Rules.{rules}
 use Rattle.sender_check.proofs.places_hold.Statement.{statement}
 use Rattle.sender_check.proofs.places_hold.Tie as tie
 
 abbrev invariant-loop : tie.invariant-loop
 invariant-loop limits numbers lengths sent resent marks ok₀ i₀ ok i =
-    (i ≤ 192) × (ok ≡ every i (holdsAt limits (record { numbers = numbers; lengths = lengths; sent = sent; resent = resent; marks = marks })))
+    (i ≤ 192) × (ok ≡ every i (holds_at limits (record { numbers = numbers; lengths = lengths; sent = sent; resent = resent; marks = marks })))
 
 abbrev decreases-loop : tie.decreases-loop
 decreases-loop limits numbers lengths sent resent marks ok₀ i₀ ok i = 192 - i
 
 loop-holds : tie.Need-loop-init invariant-loop decreases-loop
-loop-holds c = (omega arith, every-none _)
+loop-holds c = (omega arith, every_none _)
 
 mul-t13 : tie.Need-overflow-mul-t13 invariant-loop decreases-loop
 mul-t13 c = search rules
@@ -60,10 +60,10 @@ loop-less c = search rules
 loop-again : tie.Need-loop-preserved invariant-loop decreases-loop
 loop-again c =
     let h = c.before.before.before.before.before.before.before in
-    (omega arith, every-turn _ _ _ _ h.loop.invariant.1 c.place-holds.ensures)
+    (omega arith, every_turn _ _ _ _ h.loop.invariant.1 c.place-holds.ensures)
 
 returns : tie.Need-returns invariant-loop decreases-loop
-returns c = every-last _ _ _ _ c.before.loop.invariant.1 (omega arith)
+returns c = every_last _ _ _ _ c.before.loop.invariant.1 (omega arith)
 
 pub places-hold-spec : {M : Type 1} → statement M
 places-hold-spec =

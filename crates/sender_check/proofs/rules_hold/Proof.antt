@@ -17,10 +17,10 @@ returns-2 : tie.Need-returns-2
 returns-2 c = refuted _ (λ t. let r = ruled _ t in omega (arith, r.window-some))
 
 returns-3 : tie.Need-returns-3
-returns-3 c = refuted _ (λ t. let r = ruled _ t in omega (arith, r.window-most))
+returns-3 c = refuted _ (λ t. let r = ruled _ t in omega (arith, r.window_most))
 
 returns-4 : tie.Need-returns-4
-returns-4 c = refuted _ (λ t. let r = ruled _ t in omega (arith, r.clock-most))
+returns-4 c = refuted _ (λ t. let r = ruled _ t in omega (arith, r.clock_most))
 
 timer-fits-requires : tie.Need-timer-fits-requires
 timer-fits-requires c κs = search rules

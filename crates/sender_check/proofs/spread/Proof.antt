@@ -1,7 +1,7 @@
 -- `sender_check::spread` meets its contract: a number whose remainder no number before it has is none of them. Assumes nothing.
 use Prim.Native.Nat.{◌-◌}
 use lib.ListN.{length}
-use Rattle.sender_check.proofs.Buckets.{Spreads, spreads-start, spreads-more, spreads-end}
+use Rattle.sender_check.proofs.Buckets.{Spreads, spreads_start, spreads_more, spreads_end}
 use borrow.Author.Rules.{rules}
 use Rattle.sender_check.proofs.spread.Statement.{statement}
 use Rattle.sender_check.proofs.spread.Tie as tie
@@ -13,7 +13,7 @@ abbrev decreases-loop : tie.decreases-loop
 decreases-loop numbers seen₀ ok₀ i₀ seen ok i = length numbers - i
 
 loop-holds : tie.Need-loop-init invariant-loop decreases-loop
-loop-holds c = spreads-start _
+loop-holds c = spreads_start _
 
 mul-x : tie.Need-overflow-mul-x invariant-loop decreases-loop
 mul-x c = search rules
@@ -37,10 +37,10 @@ loop-less : tie.Need-loop-smaller invariant-loop decreases-loop
 loop-less c = search rules
 
 loop-again : tie.Need-loop-preserved invariant-loop decreases-loop
-loop-again c = let h = c.before.before in spreads-more _ h.loop.seen h.loop.ok h.loop.i h.loop.invariant c.before.loop-test.true
+loop-again c = let h = c.before.before in spreads_more _ h.loop.seen h.loop.ok h.loop.i h.loop.invariant c.before.loop-test.true
 
 returns : tie.Need-returns invariant-loop decreases-loop
-returns c = let h = c.before in spreads-end _ h.loop.seen h.loop.ok h.loop.i h.loop.invariant c.loop-test.false
+returns c = let h = c.before in spreads_end _ h.loop.seen h.loop.ok h.loop.i h.loop.invariant c.loop-test.false
 
 pub spread-spec : {M : Type 1} → statement M
 spread-spec =

@@ -5,12 +5,12 @@ use mathlib.Core.List.{[], ◌∷◌}
 use native.Mathlib.Omega.{arith}
 use lib.ListN.{length}
 use Rattle.terms.specs.Answers.{values}
-use Rattle.timer.proofs.Laws.{rto-most}
-use Rattle.sender_state.specs.Table.{◌!◌, placeOf}
-use Rattle.sender_state.proofs.Facts.{ruled, packet-in}
+use Rattle.timer.proofs.Laws.{rto_most}
+use Rattle.sender_state.specs.Table.{◌!◌, place_of}
+use Rattle.sender_state.proofs.Facts.{ruled, packet_in_lem}
 use Rattle.sender_state.specs.Numbers.{waiting, size_of}
-use Rattle.sender_send.specs.Send.{saidSent, sendSaid, moved}
-use Rattle.sender_send.proofs.Ranks.{Ranked, ranked-of}
+use Rattle.sender_send.specs.Send.{said_sent, send_said, moved}
+use Rattle.sender_send.proofs.Ranks.{Ranked, ranked_of}
 use Rattle.sender_send.proofs.Outcomes.{Leaves, leaves, send-kept, send-made}
 use borrow.Author.Rules.{rules}
 use Rattle.sender_send.proofs.send.Statement.{statement}
@@ -27,8 +27,8 @@ width c = let a = c.before.before.before.before.before in omega (arith, a.well-f
 
 -- what holds where the answer is a packet
 told : (c : tie.After-answer) → let a = c.before.before.before.before.before.args in
-    sendSaid a.t1 a.clock (length a.store.now) (length a.output.now) ≡ values (c.answer.given.0.0.0 ∷ c.answer.given.0.1.0 ∷ [])
-told c = sym c.before.before.judge-send.ensures ∙ ap saidSent c.answer.given.1
+    send_said a.t1 a.clock (length a.store.now) (length a.output.now) ≡ values (c.answer.given.0.0.0 ∷ c.answer.given.0.1.0 ∷ [])
+told c = sym c.before.before.judge-send.ensures ∙ ap said_sent c.answer.given.1
 
 ok : (c : tie.After-answer) → let a = c.before.before.before.before.before.args in
     Leaves a.t1 a.clock (length a.store.now) (length a.output.now) (c.answer.given.0.0.0 ∷ c.answer.given.0.1.0 ∷ [])
@@ -41,10 +41,10 @@ size_is : (c : tie.After-answer) → let a = c.before.before.before.before.befor
 size_is c = let e = (ok c).is in cc
 
 found : (c : tie.After-answer) → let a = c.before.before.before.before.before.args in Ranked a.t1 (row c) (table c) (width c) 1 0 (waiting a.t1 ! 0)
-found c = let a = c.before.before.before.before.before.args in ranked-of a.t1 (row c) (table c) (width c) 1 0 (omega arith) (ok c).some
+found c = let a = c.before.before.before.before.before.args in ranked_of a.t1 (row c) (table c) (width c) 1 0 (omega arith) (ok c).some
 
-place_is : (c : tie.After-place-of) → let a = c.before.before.before.before.before.before.before.before.before.before.args in c.place_of.result ≡ placeOf a.t1.numbers (waiting a.t1 ! 0)
-place_is c = let a = c.before.before.before.before.before.before.before.before.before.before.args in c.place_of.ensures ∙ ap (placeOf a.t1.numbers) (number_is c.before.before.before.before.before)
+place_is : (c : tie.After-place-of) → let a = c.before.before.before.before.before.before.before.before.before.before.args in c.place_of.result ≡ place_of a.t1.numbers (waiting a.t1 ! 0)
+place_is c = let a = c.before.before.before.before.before.before.before.before.before.before.args in c.place_of.ensures ∙ ap (place_of a.t1.numbers) (number_is c.before.before.before.before.before)
 
 judge-send-requires : tie.Need-judge-send-requires
 judge-send-requires c κs = search rules
@@ -63,9 +63,9 @@ put-packet-requires c κs =
     let p = c.before in
     let e = p.before.before.before.before.before in
     let a = e.before.before.before.before.before.args in
-    let place = placeOf a.t1.numbers (waiting a.t1 ! 0) in
+    let place = place_of a.t1.numbers (waiting a.t1 ! 0) in
     let stored = (found e).marked in
-    let inside = packet-in a.t1 (table e) (ruled a.t1 (ok e).keeps) (length a.store.now) place (ok e).ranges (found e).place (λ z. omega arith) in
+    let inside = packet_in_lem a.t1 (table e) (ruled a.t1 (ok e).keeps) (length a.store.now) place (ok e).ranges (found e).place (λ z. omega arith) in
     (rw (place_is p, size_is e) inside, rw (size_is e) (ok e).room-is)
 
 rto-requires : tie.Need-rto-requires
@@ -74,7 +74,7 @@ rto-requires c κs = search rules
 add-arm : tie.Need-overflow-add-arm
 add-arm c =
     let e = c.before.before.before.before.before.before.before.before.before.before in
-    omega (arith, (ok e).clock-most, c.rto.ensures, rto-most e.before.before.before.before.before.args.t1.timing)
+    omega (arith, (ok e).clock_most, c.rto.ensures, rto_most e.before.before.before.before.before.args.t1.timing)
 
 arm-requires : tie.Need-arm-requires
 arm-requires c κs = search rules

@@ -2,7 +2,7 @@
 use Prim.Native.Nat.{◌-◌}
 use mathlib.Core.Path.{refl, ◌∙◌}
 use lib.ListN.{length}
-use Rattle.terms.proofs.Scan.{Scanned, scan-start, scan-more, scan-end, whole}
+use Rattle.terms.proofs.Scan.{Scanned, scan_start, scan_more, scan_end, whole}
 use Rattle.sender_state.specs.Table.{differs}
 use borrow.Author.Rules.{rules}
 use Rattle.sender_state.proofs.absent.Statement.{statement}
@@ -17,7 +17,7 @@ decreases-loop list x ok₀ i₀ ok i = length list - i
 loop-holds : tie.Need-loop-init invariant-loop decreases-loop
 loop-holds c =
     let l = c.args.list.now in
-    scan-start (differs c.args.x) l (length l) 0 (length l) (length l) refl (search rules)
+    scan_start (differs c.args.x) l (length l) 0 (length l) (length l) refl (search rules)
 
 mul_ok : tie.Need-overflow-mul-ok invariant-loop decreases-loop
 mul_ok c = search rules
@@ -35,13 +35,13 @@ loop-again : tie.Need-loop-preserved invariant-loop decreases-loop
 loop-again c =
     let h = c.before.before in
     let l = h.before.args.list.now in
-    scan-more (differs h.before.args.x) l (length l) 0 (length l) (length l) h.loop.ok h.loop.i h.loop.invariant c.before.loop-test.true
+    scan_more (differs h.before.args.x) l (length l) 0 (length l) (length l) h.loop.ok h.loop.i h.loop.invariant c.before.loop-test.true
 
 returns : tie.Need-returns invariant-loop decreases-loop
 returns c =
     let h = c.before in
     let l = h.before.args.list.now in
-    scan-end (differs h.before.args.x) l (length l) 0 (length l) (length l) h.loop.ok h.loop.i h.loop.invariant c.loop-test.false
+    scan_end (differs h.before.args.x) l (length l) 0 (length l) (length l) h.loop.ok h.loop.i h.loop.invariant c.loop-test.false
     ∙ whole (differs h.before.args.x) l
 
 pub absent-spec : {M : Type 1} → statement M

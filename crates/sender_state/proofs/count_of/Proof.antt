@@ -5,14 +5,14 @@ use native.Mathlib.Omega.{arith}
 use lib.Dec.{eqb}
 use lib.ListN.{length, get_or, take}
 use lib.Seq.{take_all}
-use Rattle.sender_state.specs.Table.{countOf}
-use Rattle.sender_state.proofs.Folds.{count-more, one-most}
+use Rattle.sender_state.specs.Table.{count_of}
+use Rattle.sender_state.proofs.Folds.{count_more, one_most}
 use borrow.Author.Rules.{rules}
 use Rattle.sender_state.proofs.count_of.Statement.{statement}
 use Rattle.sender_state.proofs.count_of.Tie as tie
 
 abbrev invariant-loop : tie.invariant-loop
-invariant-loop marks wanted n₀ i₀ n i = (i ≤ length marks) × (n ≤ i) × (n ≡ countOf wanted (take i marks))
+invariant-loop marks wanted n₀ i₀ n i = (i ≤ length marks) × (n ≤ i) × (n ≡ count_of wanted (take i marks))
 
 abbrev decreases-loop : tie.decreases-loop
 decreases-loop marks wanted n₀ i₀ n i = length marks - i
@@ -21,7 +21,7 @@ decreases-loop marks wanted n₀ i₀ n i = length marks - i
 added : (c : tie.After-one-if invariant-loop decreases-loop) → c.one-if.result ≤ 1
 added c =
     let h = c.before.before.before in
-    omega (arith, c.one-if.ensures, one-most (eqb (get_or h.before.before.args.marks.now h.loop.i 0) h.before.before.args.wanted))
+    omega (arith, c.one-if.ensures, one_most (eqb (get_or h.before.before.args.marks.now h.loop.i 0) h.before.before.args.wanted))
 
 loop-holds : tie.Need-loop-init invariant-loop decreases-loop
 loop-holds c = (omega arith, omega arith, refl)
@@ -48,13 +48,13 @@ loop-again : tie.Need-loop-preserved invariant-loop decreases-loop
 loop-again c =
     let h = c.before.before.before in
     let a = h.before.before.args in
-    (omega arith, omega (arith, added c), omega (arith, h.loop.invariant.2, c.one-if.ensures, count-more a.wanted a.marks.now h.loop.i c.before.before.loop-test.true))
+    (omega arith, omega (arith, added c), omega (arith, h.loop.invariant.2, c.one-if.ensures, count_more a.wanted a.marks.now h.loop.i c.before.before.loop-test.true))
 
 returns : tie.Need-returns invariant-loop decreases-loop
 returns c =
     let h = c.before in
     let a = h.before.before.args in
-    h.loop.invariant.2 ∙ ap (countOf a.wanted) (take_all h.loop.i a.marks.now (omega arith))
+    h.loop.invariant.2 ∙ ap (count_of a.wanted) (take_all h.loop.i a.marks.now (omega arith))
 
 pub count-of-spec : {M : Type 1} → statement M
 count-of-spec =

@@ -1,23 +1,23 @@
 -- `sender_state::counts_fit` meets its contract: each test that fails is one of the definition's. Assumes nothing.
 use borrow.Author.Tests.{le-leb, lt-leb}
-use Rattle.sender_state.specs.Rules.{countsFit}
+use Rattle.sender_state.specs.Rules.{counts_fit}
 use Rattle.sender_state.proofs.counts_fit.Statement.{statement}
 use Rattle.sender_state.proofs.counts_fit.Tie as tie
 
 returns : tie.Need-returns
-unfolding countsFit
+unfolding counts_fit
 returns c = simp (lt-leb _ _ c.if1.true)
 
 returns-2 : tie.Need-returns-2
-unfolding countsFit
+unfolding counts_fit
 returns-2 c = simp (le-leb _ _ c.before.if1.false, lt-leb _ _ c.if2.true)
 
 returns-3 : tie.Need-returns-3
-unfolding countsFit
+unfolding counts_fit
 returns-3 c = simp (le-leb _ _ c.before.before.if1.false, le-leb _ _ c.before.if2.false, lt-leb _ _ c.if3.true)
 
 returns-4 : tie.Need-returns-4
-unfolding countsFit
+unfolding counts_fit
 returns-4 c = simp (le-leb _ _ c.before.before.if1.false, le-leb _ _ c.before.if2.false, le-leb _ _ c.if3.false)
 
 pub counts-fit-spec : {M : Type 1} → statement M

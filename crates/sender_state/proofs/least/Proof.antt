@@ -2,20 +2,20 @@
 use Prim.Native.Nat.{◌-◌, ◌≤◌}
 use mathlib.Core.Path.{◌≡◌, ◌∙◌, ap}
 use native.Mathlib.Omega.{arith}
-use Rattle.sender_state.specs.Steps.{leastOf}
-use Rattle.sender_state.proofs.Folds.{least-none, least_more}
+use Rattle.sender_state.specs.Steps.{least_of}
+use Rattle.sender_state.proofs.Folds.{least_none, least_more}
 use borrow.Author.Rules.{rules}
 use Rattle.sender_state.proofs.least.Statement.{statement}
 use Rattle.sender_state.proofs.least.Tie as tie
 
 abbrev invariant-loop : tie.invariant-loop
-invariant-loop numbers marks wanted from low₀ i₀ low i = (i ≤ 192) × (low ≡ leastOf numbers marks wanted from i)
+invariant-loop numbers marks wanted from low₀ i₀ low i = (i ≤ 192) × (low ≡ least_of numbers marks wanted from i)
 
 abbrev decreases-loop : tie.decreases-loop
 decreases-loop numbers marks wanted from low₀ i₀ low i = 192 - i
 
 loop-holds : tie.Need-loop-init invariant-loop decreases-loop
-loop-holds c = (omega arith, least-none _ _ _ _)
+loop-holds c = (omega arith, least_none _ _ _ _)
 
 mul-candidate : tie.Need-overflow-mul-candidate invariant-loop decreases-loop
 mul-candidate c = search rules
@@ -51,7 +51,7 @@ returns c =
     let h = c.before in
     let a = h.before.before.before.args in
     let e : h.loop.i ≡ 192 = omega arith in
-    h.loop.invariant.1 ∙ ap (leastOf a.numbers.now a.marks.now a.wanted a.from) e
+    h.loop.invariant.1 ∙ ap (least_of a.numbers.now a.marks.now a.wanted a.from) e
 
 pub least-spec : {M : Type 1} → statement M
 least-spec =

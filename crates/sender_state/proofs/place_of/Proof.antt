@@ -3,14 +3,14 @@ use Prim.Native.Nat.{◌+◌, ◌-◌, ◌≤◌}
 use mathlib.Core.Path.{◌≡◌}
 use native.Mathlib.Omega.{arith}
 use lib.ListN.{length, drop}
-use Rattle.sender_state.specs.Table.{placeOf}
-use Rattle.sender_state.proofs.Folds.{place-next, place_here, place_none}
+use Rattle.sender_state.specs.Table.{place_of}
+use Rattle.sender_state.proofs.Folds.{place_next, place_here, place_none}
 use borrow.Author.Rules.{rules}
 use Rattle.sender_state.proofs.place_of.Statement.{statement}
 use Rattle.sender_state.proofs.place_of.Tie as tie
 
 abbrev invariant-loop : tie.invariant-loop
-invariant-loop numbers number i₀ i = (i ≤ length numbers) × (placeOf numbers number ≡ i + placeOf (drop i numbers) number)
+invariant-loop numbers number i₀ i = (i ≤ length numbers) × (place_of numbers number ≡ i + place_of (drop i numbers) number)
 
 abbrev decreases-loop : tie.decreases-loop
 decreases-loop numbers number i₀ i = length numbers - i
@@ -38,7 +38,7 @@ loop-less c = search rules
 loop-again : tie.Need-loop-preserved invariant-loop decreases-loop
 loop-again c =
     let h = c.before.before.before in
-    (omega arith, place-next _ _ _ c.before.before.loop-test.true c.if1.false h.loop.invariant.1)
+    (omega arith, place_next _ _ _ c.before.before.loop-test.true c.if1.false h.loop.invariant.1)
 
 returns-2 : tie.Need-returns-2 invariant-loop decreases-loop
 returns-2 c = place_none _ _ _ (omega arith) c.before.loop.invariant.1

@@ -5,21 +5,21 @@ use mathlib.Core.Bool.{true}
 use native.Mathlib.Nat.{mul-le-mul_right}
 use native.Mathlib.Omega.{arith}
 use borrow.Author.Tests.{not-true, not-false}
-use Rattle.sender_state.specs.Rules.{countsFit, sizesFit}
+use Rattle.sender_state.specs.Rules.{counts_fit, sizes_fit}
 use Rattle.sender_state.proofs.Facts.{counted}
 use borrow.Author.Rules.{rules}
 use Rattle.sender_state.proofs.sizes_fit.Statement.{statement}
 use Rattle.sender_state.proofs.sizes_fit.Tie as tie
 
-fits : (c : tie.Else1) → let a = c.before.before.args in countsFit a.chunk a.count ≡ true
-fits c = sym c.before.counts-fit.ensures ∙ not-false _ c.if1.false
+fits : (c : tie.Else1) → let a = c.before.before.args in counts_fit a.chunk a.count ≡ true
+fits c = sym c.before.counts_fit_lem.ensures ∙ not-false _ c.if1.false
 
 counts-fit-requires : tie.Need-counts-fit-requires
 counts-fit-requires c κs = search rules
 
 returns : tie.Need-returns
-unfolding sizesFit
-returns c = simp (sym c.before.counts-fit.ensures ∙ not-true _ c.if1.true)
+unfolding sizes_fit
+returns c = simp (sym c.before.counts_fit_lem.ensures ∙ not-true _ c.if1.true)
 
 add-result : tie.Need-overflow-add-result
 add-result c = search rules
@@ -31,7 +31,7 @@ mul-result c =
     omega (arith, mul-le-mul_right (a.chunk + 1044) k.count_most)
 
 returns-2 : tie.Need-returns-2
-unfolding sizesFit
+unfolding sizes_fit
 returns-2 c = simp (fits c)
 
 pub sizes-fit-spec : {M : Type 1} → statement M

@@ -3,7 +3,7 @@ use Prim.Native.Nat.{◌+◌, ◌≤◌}
 use native.Mathlib.Omega.{arith}
 use lib.ListN.{length}
 use Rattle.sender_state.specs.Numbers.{offset_of}
-use Rattle.sender_submit.proofs.Ways.{never-refused, chunk-long, chunk-short, chunk-laid}
+use Rattle.sender_submit.proofs.Ways.{never_refused, chunk-long, chunk-short, chunk_laid}
 use borrow.Author.Rules.{rules}
 use Rattle.sender_submit.proofs.put_chunk.Statement.{statement}
 use Rattle.sender_submit.proofs.put_chunk.Tie as tie
@@ -64,7 +64,7 @@ returns c =
     let s = w.before.before.before.before.before.before.before.before in
     let a = s.args in
     absurd
-    (never-refused a.acks a.nacks.now s.requires.0 a.send a.recv a.number a.payload.now a.store.now w.write.new.1.1.1.1.1.0 (offset_of a.chunk a.at) w.write.result
+    (never_refused a.acks a.nacks.now s.requires.0 a.send a.recv a.number a.payload.now a.store.now w.write.new.1.1.1.1.1.0 (offset_of a.chunk a.at) w.write.result
     (short s) (inside s) w.write.ensures.0 w.write.ensures.1 _ c.enum_told.given.1)
 
 same-length-2 : tie.Need-same-length-2
@@ -77,7 +77,7 @@ returns-2 c =
     let a = s.args in (
       chunk-long a.acks a.nacks.now s.requires.0 a.send a.recv a.number a.payload.now a.store.now w.write.new.1.1.1.1.1.0 (offset_of a.chunk a.at) w.write.result
           (short s) (inside s) w.write.ensures.0 w.write.ensures.1 _ _ c.before.length.given.1,
-      chunk-laid a.acks a.nacks.now s.requires.0 a.send a.recv a.number a.payload.now a.store.now w.write.new.1.1.1.1.1.0 (offset_of a.chunk a.at) w.write.result
+      chunk_laid a.acks a.nacks.now s.requires.0 a.send a.recv a.number a.payload.now a.store.now w.write.new.1.1.1.1.1.0 (offset_of a.chunk a.at) w.write.result
           (short s) (inside s) w.write.ensures.0 w.write.ensures.1,
     )
 

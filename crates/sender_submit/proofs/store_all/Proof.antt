@@ -3,16 +3,16 @@ use Prim.Native.Nat.{◌<◌}
 use mathlib.Core.Path.{◌≡◌, sym}
 use native.Mathlib.Omega.{arith}
 use lib.ListN.{length}
-use Rattle.sender_submit.specs.Chunks.{storedBy}
-use Rattle.sender_submit.specs.Steps.{ackedPacket}
-use Rattle.sender_submit.proofs.Storing.{Storing, storing-start, storing-turn, storing-end, place-low, place_in, cut_short}
+use Rattle.sender_submit.specs.Chunks.{stored_by}
+use Rattle.sender_submit.specs.Steps.{acked_packet}
+use Rattle.sender_submit.proofs.Storing.{Storing, storing_start, storing_turn, storing_end, place_low, place_in, cut_short}
 use borrow.Author.Rules.{rules}
 use Rattle.sender_submit.proofs.store_all.Statement.{statement}
 use Rattle.sender_submit.proofs.store_all.Tie as tie
 
 abbrev invariant-loop : tie.invariant-loop
 invariant-loop s acks nacks send recv bytes packets store₀ chunk numbers₀ lengths₀ marks₀ next₀ from₀ left₀ store numbers lengths marks next from left =
-    Storing (ackedPacket acks nacks send recv) (storedBy (ackedPacket acks nacks send recv) packets bytes s store₀) s bytes (length store₀) store numbers lengths marks next from left
+    Storing (acked_packet acks nacks send recv) (stored_by (acked_packet acks nacks send recv) packets bytes s store₀) s bytes (length store₀) store numbers lengths marks next from left
 
 abbrev decreases-loop : tie.decreases-loop
 decreases-loop s acks nacks send recv bytes packets store₀ chunk numbers₀ lengths₀ marks₀ next₀ from₀ left₀ store numbers lengths marks next from left = left
@@ -30,7 +30,7 @@ table c = search rules
 placed : (c : tie.After-place-of invariant-loop decreases-loop) → c.place_of.result < 192
 placed c =
     let h = c.before.before.before.before in
-    rw c.place_of.ensures (place-low h.loop.invariant c.before.before.before.loop-test.true).1
+    rw c.place_of.ensures (place_low h.loop.invariant c.before.before.before.loop-test.true).1
 
 -- the store is as long as before
 kept : (c : tie.After-put-chunk invariant-loop decreases-loop) → length c.put-chunk.new.1.1.1.1.1.1.1.1.0 ≡ length c.before.before.before.before.before.before.before.loop.store
@@ -39,7 +39,7 @@ kept c = search rules
 loop-holds : tie.Need-loop-init invariant-loop decreases-loop
 loop-holds c =
     let a = c.before.before.before.before.before.before in
-    storing-start _ _ _ _ _ a.requires.1 (row a) (sizes a) (table a)
+    storing_start _ _ _ _ _ a.requires.1 (row a) (sizes a) (table a)
 
 cast-smaller : tie.Need-overflow-cast-smaller invariant-loop decreases-loop
 cast-smaller c = search rules
@@ -72,7 +72,7 @@ put-chunk-requires c κs =
     let s = h.before.before.before.before.before.before.before in (
       s.requires.0,
       cut_short s.args.bytes.now s.args.s.chunk h.loop.from p.before.before.smaller.result h.loop.invariant.inside p.before.before.smaller.ensures,
-      s.requires.1.chunk-most,
+      s.requires.1.chunk_most,
       rw p.place_of.ensures (place_in h.loop.invariant p.before.before.before.loop-test.true s.requires.1.store),
     )
 
@@ -110,7 +110,7 @@ loop-again c =
     let q = c.before.before in
     let p = q.before.before.before in
     let h = p.before.before.before.before in
-    storing-turn h.loop.invariant p.before.before.before.loop-test.true p.before.before.smaller.result p.place_of.result q.put-chunk.result _
+    storing_turn h.loop.invariant p.before.before.before.loop-test.true p.before.before.smaller.result p.place_of.result q.put-chunk.result _
     p.before.before.smaller.ensures p.place_of.ensures q.put-chunk.ensures.0 q.put-chunk.ensures.1 (kept q)
 
 same_length : tie.Need-same-length invariant-loop decreases-loop
@@ -119,7 +119,7 @@ same_length c = c.before.before.before.loop.invariant.long
 returns : tie.Need-returns invariant-loop decreases-loop
 returns c =
     let h = c.before.before.before in
-    storing-end h.loop.invariant c.before.before.loop-test.false
+    storing_end h.loop.invariant c.before.before.loop-test.false
 
 pub store-all-spec : {M : Type 1} → statement M
 store-all-spec =

@@ -1,5 +1,5 @@
 -- `sender_submit::submit` meets its contract: the judge refuses, or counts packets for which there is room. Assumes nothing.
-use Rattle.sender_submit.proofs.Ways.{submit-kept, submit-asks, submit-made}
+use Rattle.sender_submit.proofs.Ways.{submit-kept, submit_asks, submit-made}
 use borrow.Author.Rules.{rules}
 use Rattle.sender_submit.proofs.submit.Statement.{statement}
 use Rattle.sender_submit.proofs.submit.Tie as tie
@@ -18,7 +18,7 @@ submit-done-requires c κs =
     let k = c.before.before in
     let j = k.before.before in
     let a = j.before.before.before.args in
-    submit-asks a.s a.r a.send a.recv a.bytes.now a.store.now j.judge.result j.judge.ensures k.answer.given.0.0 k.answer.given.1
+    submit_asks a.s a.r a.send a.recv a.bytes.now a.store.now j.judge.result j.judge.ensures k.answer.given.0.0 k.answer.given.1
 
 returns : tie.Need-returns
 returns c =
@@ -35,7 +35,7 @@ returns-2 c =
     let k = d.before.before.before in
     let j = k.before.before in
     let a = j.before.before.before.args in
-    submit-made a.s a.r a.send a.recv a.bytes.now a.store.now j.judge.result j.judge.ensures k.answer.given.0.0 k.answer.given.1 _ _ d.submit-done.ensures
+    submit-made a.s a.r a.send a.recv a.bytes.now a.store.now j.judge.result j.judge.ensures k.answer.given.0.0 k.answer.given.1 _ _ d.submit_done.ensures
 
 pub submit-spec : {M : Type 1} → statement M
 submit-spec =

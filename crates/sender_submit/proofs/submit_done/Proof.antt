@@ -4,9 +4,9 @@ use mathlib.Core.Path.{◌≡◌, sym}
 use lib.ListN.{length, take}
 use lib.Seq.{length-take-le}
 use Rattle.receiver_state.proofs.Facts.{ruled}
-use Rattle.receiver_ack.specs.Fields.{ackNacksOf}
-use Rattle.receiver_ack.proofs.Ways.{nacks-front}
-use Rattle.sender_submit.proofs.Ways.{acking-of, stored_of}
+use Rattle.receiver_ack.specs.Fields.{ack_nacks_of}
+use Rattle.receiver_ack.proofs.Ways.{nacks_front}
+use Rattle.sender_submit.proofs.Ways.{acking_of, stored_of}
 use borrow.Author.Rules.{rules}
 use Rattle.sender_submit.proofs.submit_done.Statement.{statement}
 use Rattle.sender_submit.proofs.submit_done.Tie as tie
@@ -16,10 +16,10 @@ table c = search rules
 
 -- the NACKs, which the table of the missing numbers has at its front
 nacks : (g : tie.After-fields) → let a = g.before.before.before.before.before.before.before.before.before.args in
-    (take g.fields.result.nacks g.fields.new.1.1.1.0 ≡ ackNacksOf a.t2) × (g.fields.result.nacks ≤ length g.fields.new.1.1.1.0)
+    (take g.fields.result.nacks g.fields.new.1.1.1.0 ≡ ack_nacks_of a.t2) × (g.fields.result.nacks ≤ length g.fields.new.1.1.1.0)
 nacks g =
     let a = g.before.before.before.before.before.before.before.before.before.args in
-    nacks-front a.t2.head.next.0 a.t2.head.highest.0 a.t2.marks _ g.fields.result g.fields.new.1.1.1.0 g.fields.ensures.0 g.fields.ensures.1
+    nacks_front a.t2.head.next.0 a.t2.head.highest.0 a.t2.marks _ g.fields.result g.fields.new.1.1.1.0 g.fields.ensures.0 g.fields.ensures.1
 
 fields-requires : tie.Need-fields-requires
 fields-requires c κs =
@@ -37,7 +37,7 @@ store-all-requires : tie.Need-store-all-requires
 store-all-requires c κs =
     let g = c.before.before in
     let s = g.before.before.before.before.before.before.before.before.before in
-    (rw ((nacks g).0, g.fields.ensures.0) (acking-of s.args.t2.head.next.0 s.args.t2.head.highest.0 s.args.t2.marks), s.requires.1)
+    (rw ((nacks g).0, g.fields.ensures.0) (acking_of s.args.t2.head.next.0 s.args.t2.head.highest.0 s.args.t2.marks), s.requires.1)
 
 same_length : tie.Need-same-length
 same_length c = search rules

@@ -15,7 +15,7 @@ rules-hold-requires : tie.Need-rules-hold-requires
 rules-hold-requires c κs = search rules
 
 returns-2 : tie.Need-returns-2
-returns-2 c = simp (sym c.before.before.before.before.before.before.valid.ensures ∙ not-false _ c.before.before.before.before.before.if1.false) c.rules-hold.ensures
+returns-2 c = simp (sym c.before.before.before.before.before.before.valid.ensures ∙ not-false _ c.before.before.before.before.before.if1.false) c.rules_hold.ensures
 
 pub both-keep-spec : {M : Type 1} → statement M
 both-keep-spec = tie.close (tie.spec valid-requires returns rules-hold-requires returns-2)

@@ -2,7 +2,7 @@
 use mathlib.Core.Path.{sym, ◌∙◌}
 use borrow.Author.Tests.{not-true, not-false}
 use native.Mathlib.Omega.{arith}
-use Rattle.serial_feed.proofs.Ways.{broken, other-buffer, own-buffer}
+use Rattle.serial_feed.proofs.Ways.{broken, other_buffer, own_buffer}
 use borrow.Author.Rules.{rules}
 use Rattle.serial_feed.proofs.feed.Statement.{statement}
 use Rattle.serial_feed.proofs.feed.Tie as tie
@@ -14,7 +14,7 @@ returns : tie.Need-returns
 returns c = broken _ _ _ (sym c.before.keeps-rules.ensures ∙ not-true _ c.if1.true)
 
 returns-2 : tie.Need-returns-2
-returns-2 c = other-buffer _ _ _ (sym c.before.before.before.keeps-rules.ensures ∙ not-false _ c.before.before.if1.false) (omega arith)
+returns-2 c = other_buffer _ _ _ (sym c.before.before.before.keeps-rules.ensures ∙ not-false _ c.before.before.if1.false) (omega arith)
 
 hear-requires : tie.Need-hear-requires
 hear-requires c κs = (sym c.before.before.before.before.keeps-rules.ensures ∙ not-false _ c.before.before.before.if1.false, omega arith)
@@ -23,7 +23,7 @@ same_length : tie.Need-same-length
 same_length c = search rules
 
 returns-3 : tie.Need-returns-3
-returns-3 c = c.before.before.hear.ensures ∙ own-buffer _ _ _ (sym c.before.before.before.before.before.before.before.keeps-rules.ensures ∙ not-false _ c.before.before.before.before.before.before.if1.false) (omega arith)
+returns-3 c = c.before.before.hear.ensures ∙ own_buffer _ _ _ (sym c.before.before.before.before.before.before.before.keeps-rules.ensures ∙ not-false _ c.before.before.before.before.before.before.if1.false) (omega arith)
 
 pub feed-spec : {M : Type 1} → statement M
 feed-spec =

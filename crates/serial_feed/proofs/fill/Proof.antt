@@ -1,6 +1,6 @@
 -- `serial_feed::fill` meets its contract: it copies what the packet lacks, or all that is given, behind the bytes that are there. Assumes nothing.
 use native.Mathlib.Omega.{arith}
-use Rattle.serial_feed.proofs.Ways.{fills-short, fills-full}
+use Rattle.serial_feed.proofs.Ways.{fills_short, fills_full}
 use borrow.Author.Rules.{rules}
 use Rattle.serial_feed.proofs.fill.Statement.{statement}
 use Rattle.serial_feed.proofs.fill.Tie as tie
@@ -42,7 +42,7 @@ returns : tie.Need-returns
 returns c =
     let s = c.before.before.before.before.before.before.before.before in
     let a = s.args in
-    fills-short a.room a.buffer.now a.portion.now c.before.before.put-bytes.new.0 a.size a.there a.at s.requires.0 s.requires.1 s.requires.2 (omega arith)
+    fills_short a.room a.buffer.now a.portion.now c.before.before.put-bytes.new.0 a.size a.there a.at s.requires.0 s.requires.1 s.requires.2 (omega arith)
     c.before.before.put-bytes.ensures
 
 add-end : tie.Need-overflow-add-end
@@ -76,7 +76,7 @@ returns-2 : tie.Need-returns-2
 returns-2 c =
     let s = c.before.before.before.before.before.before.before.before in
     let a = s.args in
-    fills-full a.room a.buffer.now a.portion.now c.before.before.put-bytes2.new.0 a.size a.there a.at s.requires.0 s.requires.1 s.requires.2 (omega arith)
+    fills_full a.room a.buffer.now a.portion.now c.before.before.put-bytes2.new.0 a.size a.there a.at s.requires.0 s.requires.1 s.requires.2 (omega arith)
     c.before.before.put-bytes2.ensures
 
 pub fill_spec : {M : Type 1} → statement M

@@ -1,6 +1,6 @@
 -- `serial_feed::hear` meets its contract: a way out for each phase, and for portions of none, one and more bytes. Assumes nothing.
 use native.Mathlib.Omega.{arith}
-use Rattle.serial_feed.proofs.Ways.{within-facts, half-fact, hears-stopped, hears-within, hears-nothing, hears-low, hears-high, hears-length}
+use Rattle.serial_feed.proofs.Ways.{within_facts, half_fact, hears-stopped, hears-within, hears-nothing, hears-low, hears_high, hears-length}
 use borrow.Author.Rules.{rules}
 use Rattle.serial_feed.proofs.hear.Statement.{statement}
 use Rattle.serial_feed.proofs.hear.Tie as tie
@@ -15,7 +15,7 @@ fill-requires : tie.Need-fill-requires
 fill-requires c κs =
     let s = c.before.before.before.before.before.before.before in
     let a = s.args in
-    let u = within-facts a.r a.buffer.now s.requires.0 s.requires.1 (omega arith) in
+    let u = within_facts a.r a.buffer.now s.requires.0 s.requires.1 (omega arith) in
     (u.less, omega (arith, u.fits), omega arith)
 
 same_length : tie.Need-same-length
@@ -43,14 +43,14 @@ mul-size : tie.Need-overflow-mul-size
 mul-size c =
     let s = c.before.before.before.before.before.before.before.before.before.before.before.before in
     let a = s.args in
-    let u = half-fact a.r a.buffer.now s.requires.0 s.requires.1 (omega arith) in
+    let u = half_fact a.r a.buffer.now s.requires.0 s.requires.1 (omega arith) in
     omega arith
 
 add-size : tie.Need-overflow-add-size
 add-size c =
     let s = c.before.before.before.before.before.before.before.before.before.before.before.before in
     let a = s.args in
-    let u = half-fact a.r a.buffer.now s.requires.0 s.requires.1 (omega arith) in
+    let u = half_fact a.r a.buffer.now s.requires.0 s.requires.1 (omega arith) in
     omega arith
 
 cast-size : tie.Need-overflow-cast-size
@@ -73,7 +73,7 @@ returns-5 : tie.Need-returns-5
 returns-5 c =
     let s = c.before.before.before.before.before.before.before.before.before.before.before.before in
     let a = s.args in
-    hears-high a.r a.buffer.now a.portion.now s.requires.0 s.requires.1 (omega arith) (omega arith) (omega arith) (omega arith) c.before.before.before.wide.result c.before.before.before.wide.ensures.0
+    hears_high a.r a.buffer.now a.portion.now s.requires.0 s.requires.1 (omega arith) (omega arith) (omega arith) (omega arith) c.before.before.before.wide.result c.before.before.before.wide.ensures.0
 
 mul-size-2 : tie.Need-overflow-mul-size-2
 mul-size-2 c = search rules

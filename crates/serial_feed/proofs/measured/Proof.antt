@@ -1,6 +1,6 @@
 -- `serial_feed::measured` meets its contract: a length is refused, or its packet is filled from nothing. Assumes nothing.
 use native.Mathlib.Omega.{arith}
-use Rattle.serial_feed.proofs.Ways.{length-unfit, length-fits, length-small}
+use Rattle.serial_feed.proofs.Ways.{length-unfit, length-fits, length_small}
 use lib.ListN.{drop}
 use borrow.Author.Rules.{rules}
 use Rattle.serial_feed.proofs.measured.Statement.{statement}
@@ -15,7 +15,7 @@ fill-requires : tie.Need-fill-requires
 fill-requires c κs =
     let s = c.before.before.before.before in
     let a = s.args in
-    let u = length-small a.room a.size c.before.if1.false in
+    let u = length_small a.room a.size c.before.if1.false in
     (omega (arith, u.0), omega (arith, u.1), omega arith)
 
 same_length : tie.Need-same-length

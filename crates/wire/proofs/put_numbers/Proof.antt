@@ -6,15 +6,15 @@ use borrow.Author.Rules.{rules}
 use borrow.Rule.Slice.PartMut.{same_len_mid}
 use lib.ListN.{length, get_or, take, length-take, length-drop}
 use lib.Seq.{take-length, length-take-le}
-use Rattle.terms.specs.Lists.{◌atFrontOf◌}
-use Rattle.wire.specs.BigEndian.{bytes_of, bytesOfEach}
+use Rattle.terms.specs.Lists.{◌at_front_of◌}
+use Rattle.wire.specs.BigEndian.{bytes_of, bytes_of_each}
 use Rattle.wire.proofs.Laws.{length-each, each_more}
-use Rattle.wire.proofs.Parts.{then-put}
+use Rattle.wire.proofs.Parts.{then_put}
 use Rattle.wire.proofs.put_numbers.Statement.{statement}
 use Rattle.wire.proofs.put_numbers.Tie as tie
 
 abbrev invariant-loop : tie.invariant-loop
-invariant-loop rest₀ xs at₀ j₀ rest at j = (j ≤ length xs) × (at ≡ 4 * j) × (length rest ≡ length rest₀) × (rest ≡ bytesOfEach 4 (take j xs) atFrontOf rest₀)
+invariant-loop rest₀ xs at₀ j₀ rest at j = (j ≤ length xs) × (at ≡ 4 * j) × (length rest ≡ length rest₀) × (rest ≡ bytes_of_each 4 (take j xs) at_front_of rest₀)
 
 abbrev decreases-loop : tie.decreases-loop
 decreases-loop rest₀ xs at₀ j₀ rest at j = length xs - j
@@ -59,7 +59,7 @@ loop-again c =
       omega arith,
       omega arith,
       same_len_mid l.loop.at (length l.loop.rest - l.loop.at) l.loop.rest p.put32.new.0 p.put32.auto.0 ∙ l.loop.invariant.2,
-      then-put (bytesOfEach 4 (take j xs)) (bytes_of 4 (get_or xs j 0)) a.rest.now _ _ _ l.loop.invariant.3
+      then_put (bytes_of_each 4 (take j xs)) (bytes_of 4 (get_or xs j 0)) a.rest.now _ _ _ l.loop.invariant.3
           (length-each 4 (take j xs) ∙ rw (length-take-le j xs (omega arith)) (sym l.loop.invariant.1)) (omega arith) p.put32.ensures
           ∙ rw (each_more 4 xs j (omega arith)),
     )

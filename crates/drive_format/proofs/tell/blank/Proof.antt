@@ -13,8 +13,8 @@ decreases-loop bank from width i₀ i = width - i
 loop-holds : tie.Need-loop-init invariant-loop decreases-loop
 loop-holds c = search rules
 
-add-value : tie.Need-overflow-add-value invariant-loop decreases-loop
-add-value c = search rules
+add_value : tie.Need-overflow-add-value invariant-loop decreases-loop
+add_value c = search rules
 
 value-requires : tie.Need-value-requires invariant-loop decreases-loop
 value-requires c κs = search rules
@@ -41,7 +41,7 @@ blank-spec =
     invariant-loop
     decreases-loop
     loop-holds
-    add-value
+    add_value
     value-requires
     returns
     add-i

@@ -4,16 +4,16 @@ use mathlib.Core.Path.{◌≡◌, sym, ◌∙◌}
 use native.Mathlib.Omega.{arith}
 use Rattle.terms.specs.Ladder.{◌when◌else◌}
 use Rattle.packet_read.specs.Flags.{bit}
-use Rattle.packet_read.specs.Options.{signatureAt}
-use Rattle.packet_read.proofs.Ways.{signature-place, cut-max, offline-block, offline-alone, cut-signature, all_found}
+use Rattle.packet_read.specs.Options.{signature_at}
+use Rattle.packet_read.proofs.Ways.{signature_place, cut_max, offline_block, offline_alone, cut_signature, all_found}
 use borrow.Author.Rules.{rules}
 use Rattle.packet_read.proofs.area.after_destination.Statement.{statement}
 use Rattle.packet_read.proofs.area.after_destination.Tie as tie
 
 -- the signature stands where the definition says
 place : (c : tie.After-size-if) → let a = c.before.before.before.args in
-    a.destination-at + a.size + c.size-if.result ≡ signatureAt a.at a.flags a.size
-place c = let a = c.before.before.before.args in signature-place a.at a.flags a.size a.destination-at _ _ c.before.before.before.requires.0 c.before.has.ensures c.size-if.ensures.0
+    a.destination-at + a.size + c.size-if.result ≡ signature_at a.at a.flags a.size
+place c = let a = c.before.before.before.args in signature_place a.at a.flags a.size a.destination-at _ _ c.before.before.before.requires.0 c.before.has.ensures c.size-if.ensures.0
 
 size : (c : tie.After-signature-size) → let s = c.before.before.before.before.before.before in let a = s.before.before.before.args in
     c.signature-size.result ≡ ((a.signs when bit 5 a.flags else (a.end - (a.destination-at + a.size + s.size-if.result))) when bit 3 a.flags else 0)
@@ -32,7 +32,7 @@ add-signature-at : tie.Need-overflow-add-signature-at
 add-signature-at c = search rules
 
 returns : tie.Need-returns
-returns c = cut-max _ _ _ _ _ _ (place c.before) c.if1.true
+returns c = cut_max _ _ _ _ _ _ (place c.before) c.if1.true
 
 has-requires-2 : tie.Need-has-requires-2
 has-requires-2 c κs = search rules
@@ -44,13 +44,13 @@ returns-2 : tie.Need-returns-2
 returns-2 c =
     let h = c.before.before in
     let e = h.before.before in
-    offline-block _ _ _ _ _ _ (place e.before) e.if1.false (sym h.has3.ensures ∙ c.before.if2.true) (sym h.before.has2.ensures ∙ c.if3.true)
+    offline_block _ _ _ _ _ _ (place e.before) e.if1.false (sym h.has3.ensures ∙ c.before.if2.true) (sym h.before.has2.ensures ∙ c.if3.true)
 
 returns-3 : tie.Need-returns-3
 returns-3 c =
     let h = c.before.before in
     let e = h.before.before in
-    offline-alone _ _ _ _ _ _ (place e.before) e.if1.false (sym h.has3.ensures ∙ c.before.if2.true) (sym h.before.has2.ensures ∙ c.if3.false)
+    offline_alone _ _ _ _ _ _ (place e.before) e.if1.false (sym h.has3.ensures ∙ c.before.if2.true) (sym h.before.has2.ensures ∙ c.if3.false)
 
 has-requires-4 : tie.Need-has-requires-4
 has-requires-4 c κs = search rules
@@ -63,7 +63,7 @@ returns-4 c =
     let g = c.before in
     let n = g.before.before in
     let e = n.before.before.before in
-    cut-signature _ _ _ _ _ _ (place e.before) e.if1.false (sym n.before.has3.ensures ∙ n.if2.false) _ (size g) c.if4.true
+    cut_signature _ _ _ _ _ _ (place e.before) e.if1.false (sym n.before.has3.ensures ∙ n.if2.false) _ (size g) c.if4.true
 
 has-requires-5 : tie.Need-has-requires-5
 has-requires-5 c κs = search rules

@@ -7,19 +7,19 @@ use borrow.Author.Tests.{eq-eqb, not-true, not-false}
 use lib.Dec.{eqb}
 use Rattle.terms.specs.Ladder.{◌when◌else◌}
 use Rattle.wire.specs.BigEndian.{number_at}
-use Rattle.packet_read.specs.Destination.{signingType, formFits}
-use Rattle.packet_read.proofs.Form.{form-long}
-use Rattle.packet_read.proofs.Ways.{short-key, wrong-form, cut-certificate, wrong-key, whole}
+use Rattle.packet_read.specs.Destination.{signing_type, form_fits}
+use Rattle.packet_read.proofs.Form.{form_long}
+use Rattle.packet_read.proofs.Ways.{short_key, wrong_form, cut_certificate, wrong_key, whole}
 use borrow.Author.Rules.{rules}
 use Rattle.packet_read.proofs.area.destination_in.Statement.{statement}
 use Rattle.packet_read.proofs.area.destination_in.Tie as tie
 
 -- past the test of its form
-formed : (c : tie.Else2) → let b = c.before.before in formFits b.before.be8.result b.be16.result ≡ true
-formed c = sym c.before.form-fits.ensures ∙ not-false _ c.if2.false
+formed : (c : tie.Else2) → let b = c.before.before in form_fits b.before.be8.result b.be16.result ≡ true
+formed c = sym c.before.form_fits_lem.ensures ∙ not-false _ c.if2.false
 
 -- the type of its key is the definition's
-kind : (c : tie.After-signing-type) → let s = c.before.before.before.before.before.before.before in c.signing-type.result ≡ signingType s.before.args.bytes.now s.before.args.at
+kind : (c : tie.After-signing-type) → let s = c.before.before.before.before.before.before.before in c.signing-type.result ≡ signing_type s.before.args.bytes.now s.before.args.at
 kind c =
     let s = c.before.before.before.before.before.before.before in
     c.signing-type.ensures
@@ -29,7 +29,7 @@ sub-if1 : tie.Need-overflow-sub-if1
 sub-if1 c = search rules
 
 returns : tie.Need-returns
-returns c = short-key _ _ _ c.before.before.requires.0 c.if1.true
+returns c = short_key _ _ _ c.before.before.requires.0 c.if1.true
 
 add-be8 : tie.Need-overflow-add-be8
 add-be8 c = search rules
@@ -54,7 +54,7 @@ returns-2 c =
     let f = c.before in
     let b = f.before in
     let e = b.before.before in
-    wrong-form _ _ _ e.before.before.requires.0 e.if1.false _ b.before.be8.ensures _ b.be16.ensures (sym f.form-fits.ensures ∙ not-true _ c.if2.true)
+    wrong_form _ _ _ e.before.before.requires.0 e.if1.false _ b.before.be8.ensures _ b.be16.ensures (sym f.form_fits_lem.ensures ∙ not-true _ c.if2.true)
 
 sub-if3 : tie.Need-overflow-sub-if3
 sub-if3 c = search rules
@@ -67,14 +67,14 @@ returns-3 c =
     let g = c.before in
     let b = g.before.before in
     let e = b.before.before in
-    cut-certificate _ _ _ e.before.before.requires.0 e.if1.false _ b.before.be8.ensures _ b.be16.ensures (formed g) c.if3.true
+    cut_certificate _ _ _ e.before.before.requires.0 e.if1.false _ b.before.be8.ensures _ b.be16.ensures (formed g) c.if3.true
 
 signing-type-requires : tie.Need-signing-type-requires
 signing-type-requires c κs =
     λ five.
     let b = c.before.before.before in
     let s = b.before.before.before.before in
-    omega (arith, form-long b.before.be8.result b.be16.result (formed c.before) (eq-eqb b.before.be8.result 5 five), s.requires, c.if3.false)
+    omega (arith, form_long b.before.be8.result b.be16.result (formed c.before) (eq-eqb b.before.be8.result 5 five), s.requires, c.if3.false)
 
 key-fits-requires : tie.Need-key-fits-requires
 key-fits-requires c κs = search rules
@@ -85,7 +85,7 @@ returns-4 c =
     let i = h.before in
     let b = i.before.before.before in
     let e = b.before.before in
-    wrong-key _ _ _ e.before.before.requires.0 e.if1.false _ b.before.be8.ensures _ b.be16.ensures (formed i.before) i.if3.false _ (kind h)
+    wrong_key _ _ _ e.before.before.requires.0 e.if1.false _ b.before.be8.ensures _ b.be16.ensures (formed i.before) i.if3.false _ (kind h)
     (sym c.before.key_fits.ensures ∙ not-true _ c.if4.true)
 
 signature-length-requires : tie.Need-signature-length-requires

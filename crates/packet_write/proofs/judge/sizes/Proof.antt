@@ -4,8 +4,8 @@ use mathlib.Core.Path.{◌≡◌, ◌∙◌}
 use native.Mathlib.Omega.{arith}
 use Rattle.terms.specs.Ladder.{◌when◌else◌}
 use Rattle.packet_read.specs.Flags.{bit}
-use Rattle.packet_read.specs.Options.{signatureAt}
-use Rattle.packet_write.proofs.Ways.{part-long, too_long, no_room, it-fits}
+use Rattle.packet_read.specs.Options.{signature_at}
+use Rattle.packet_write.proofs.Ways.{part-long, too_long, no_room, it_fits}
 use borrow.Author.Rules.{rules}
 use Rattle.packet_write.proofs.judge.sizes.Statement.{statement}
 use Rattle.packet_write.proofs.judge.sizes.Tie as tie
@@ -16,7 +16,7 @@ short c = c.before.part-long.ensures.1 c.if1.false
 
 -- the signature begins where the definition says
 place : (c : tie.After-before-signature) → let a = c.before.before.before.args in
-    22 + 4 * a.nacks + c.before-signature.result ≡ signatureAt (22 + 4 * a.nacks) a.flags a.destination
+    22 + 4 * a.nacks + c.before-signature.result ≡ signature_at (22 + 4 * a.nacks) a.flags a.destination
 place c = omega (arith, c.before-signature.ensures.0)
 
 part-long-requires : tie.Need-part-long-requires
@@ -66,7 +66,7 @@ returns-4 c =
     let e = c.before.before in
     let a = e.before.before.before.before.before.args in
     let begins : c.size-if.result ≡ (22 + 4 * a.nacks + e.before.before.before-signature.result when bit 3 a.flags else 0) = c.size-if.ensures.0 ∙ rw c.before.has.ensures in
-    it-fits a.flags a.nacks a.destination a.signature a.payload a.room _ (place e.before.before) e.before.if2.false e.if3.false _ begins
+    it_fits a.flags a.nacks a.destination a.signature a.payload a.room _ (place e.before.before) e.before.if2.false e.if3.false _ begins
 
 pub sizes-spec : {M : Type 1} → statement M
 sizes-spec =

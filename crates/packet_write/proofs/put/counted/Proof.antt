@@ -2,9 +2,9 @@
 use mathlib.Core.Path.{refl}
 use native.Mathlib.Omega.{arith}
 use lib.ListN.{length}
-use Rattle.wire.specs.BigEndian.{bytes_of, bytesOfEach}
+use Rattle.wire.specs.BigEndian.{bytes_of, bytes_of_each}
 use Rattle.wire.proofs.Laws.{length-each}
-use Rattle.wire.proofs.Parts.{front-first, front-more}
+use Rattle.wire.proofs.Parts.{front-first, front_more}
 use borrow.Author.Rules.{rules}
 use Rattle.packet_write.proofs.put.counted.Statement.{statement}
 use Rattle.packet_write.proofs.put.counted.Tie as tie
@@ -37,7 +37,7 @@ returns c =
     let s = q.before.before.before.before in
     let nacks = s.args.nacks.now in
     let f1 = front-first (bytes_of 1 (length nacks)) s.args.rest.now _ 1 q.put8.ensures refl (omega (arith, s.requires)) in
-    (front-more f1 (bytesOfEach 4 nacks) (omega (arith, length-each 4 nacks, s.requires)) p.put-numbers.ensures).begins
+    (front_more f1 (bytes_of_each 4 nacks) (omega (arith, length-each 4 nacks, s.requires)) p.put-numbers.ensures).begins
 
 pub counted_spec : {M : Type 1} → statement M
 counted_spec =

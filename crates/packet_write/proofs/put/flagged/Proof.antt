@@ -2,7 +2,7 @@
 use mathlib.Core.Path.{refl}
 use native.Mathlib.Omega.{arith}
 use Rattle.wire.specs.BigEndian.{bytes_of}
-use Rattle.wire.proofs.Parts.{front-first, front-more}
+use Rattle.wire.proofs.Parts.{front-first, front_more}
 use borrow.Author.Rules.{rules}
 use Rattle.packet_write.proofs.put.flagged.Statement.{statement}
 use Rattle.packet_write.proofs.put.flagged.Tie as tie
@@ -44,8 +44,8 @@ returns c =
     let d = b.before.before.before.before in
     let s = d.before.before.before in
     let f1 = front-first (bytes_of 1 s.args.resend) s.args.rest.now _ 1 d.put8.ensures refl (omega (arith, s.requires)) in
-    let f2 = front-more f1 (bytes_of 2 s.args.flags) (omega (arith, s.requires)) b.put16.ensures in
-    (front-more f2 (bytes_of 2 s.args.options) (omega (arith, s.requires)) a.put162.ensures).begins
+    let f2 = front_more f1 (bytes_of 2 s.args.flags) (omega (arith, s.requires)) b.put16.ensures in
+    (front_more f2 (bytes_of 2 s.args.options) (omega (arith, s.requires)) a.put162.ensures).begins
 
 pub flagged-spec : {M : Type 1} → statement M
 flagged-spec =

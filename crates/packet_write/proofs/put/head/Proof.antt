@@ -4,10 +4,10 @@ use mathlib.Core.Path.{refl, ◌∙◌, ap}
 use mathlib.Core.List.{List, ◌++◌}
 use native.Mathlib.Omega.{arith}
 use lib.ListN.{length}
-use Rattle.terms.specs.Lists.{◌atFrontOf◌}
-use Rattle.wire.specs.BigEndian.{bytes_of, bytesOfEach}
+use Rattle.terms.specs.Lists.{◌at_front_of◌}
+use Rattle.wire.specs.BigEndian.{bytes_of, bytes_of_each}
 use Rattle.wire.proofs.Laws.{length-each}
-use Rattle.wire.proofs.Parts.{front-first, front-more, front_at}
+use Rattle.wire.proofs.Parts.{front-first, front_more, front_at}
 use Rattle.packet_write.proofs.Joins.{head-joined}
 use borrow.Author.Rules.{rules}
 use Rattle.packet_write.proofs.put.head.Statement.{statement}
@@ -72,10 +72,10 @@ returns c =
     let nacks = s.args.nacks.now in
     let l = length-each 4 nacks in
     let f0 = front-first (bytes_of 4 f.send_stream_id.0 ++ bytes_of 4 f.recv_stream_id.0) s.args.rest.now _ 8 d.ids.ensures refl (omega (arith, s.requires)) in
-    let f1 = front-more f0 (bytes_of 4 f.seq_nro.0 ++ bytes_of 4 f.ack_through.0) (omega (arith, s.requires)) g.numbers.ensures in
-    let f2 = front_at (17 + 4 * length nacks) (omega (arith, l)) (front-more f1 (bytes_of 1 (length nacks) ++ bytesOfEach 4 nacks) (omega (arith, l, s.requires)) b.counted.ensures) in
-    let f3 = front-more f2 (bytes_of 1 f.resend_delay ++ bytes_of 2 f.flags ++ bytes_of 2 s.args.options) (omega (arith, s.requires)) a.flagged.ensures in
-    f3.begins ∙ ap (λ (w : List ℕ). w atFrontOf s.args.rest.now) (head-joined f nacks s.args.options)
+    let f1 = front_more f0 (bytes_of 4 f.seq_nro.0 ++ bytes_of 4 f.ack_through.0) (omega (arith, s.requires)) g.numbers.ensures in
+    let f2 = front_at (17 + 4 * length nacks) (omega (arith, l)) (front_more f1 (bytes_of 1 (length nacks) ++ bytes_of_each 4 nacks) (omega (arith, l, s.requires)) b.counted.ensures) in
+    let f3 = front_more f2 (bytes_of 1 f.resend_delay ++ bytes_of 2 f.flags ++ bytes_of 2 s.args.options) (omega (arith, s.requires)) a.flagged.ensures in
+    f3.begins ∙ ap (λ (w : List ℕ). w at_front_of s.args.rest.now) (head-joined f nacks s.args.options)
 
 pub head_spec : {M : Type 1} → statement M
 head_spec =

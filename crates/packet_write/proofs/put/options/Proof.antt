@@ -7,11 +7,11 @@ use native.Mathlib.Omega.{arith}
 use lib.ListN.{length, take, drop}
 use borrow.Rule.Slice.PartMut.{put_mid}
 use Rattle.terms.specs.Ladder.{◌when◌else◌}
-use Rattle.terms.specs.Lists.{◌atFrontOf◌}
-use Rattle.wire.proofs.Parts.{Front, front-first, front-more, front_at, front-inside, front-room}
+use Rattle.terms.specs.Lists.{◌at_front_of◌}
+use Rattle.wire.proofs.Parts.{Front, front-first, front_more, front_at, front-inside, front-room}
 use Rattle.packet_read.specs.Flags.{bit}
-use Rattle.packet_write.specs.Writing.{ifThere}
-use Rattle.packet_write.proofs.Joins.{length-if}
+use Rattle.packet_write.specs.Writing.{if_there}
+use Rattle.packet_write.proofs.Joins.{length_if}
 use borrow.Author.Rules.{rules}
 use Rattle.packet_write.proofs.put.options.Statement.{statement}
 use Rattle.packet_write.proofs.put.options.Tie as tie
@@ -33,38 +33,38 @@ size2 c = c.size-if2.ensures.0 ∙ ap (λ (b : Bool). size_of b) (sized c).befor
 
 -- the delay is at the front
 one : (c : tie.After-size-if) → let s = start c in
-    Front (ifThere (bit 6 s.args.flags) s.args.delay) s.args.rest.now c.before.before.before.put16-if.new.0 c.size-if.result
+    Front (if_there (bit 6 s.args.flags) s.args.delay) s.args.rest.now c.before.before.before.put16-if.new.0 c.size-if.result
 one c =
     let s = start c in
-    front-first _ _ _ _ (c.before.before.before.put16-if.ensures ∙ ap (λ (b : Bool). ifThere b s.args.delay atFrontOf s.args.rest.now) c.before.before.before.before.before.before.has.ensures)
-    (length-if (bit 6 s.args.flags) s.args.delay ∙ sym (size c)) (omega (arith, size c, s.pre))
+    front-first _ _ _ _ (c.before.before.before.put16-if.ensures ∙ ap (λ (b : Bool). if_there b s.args.delay at_front_of s.args.rest.now) c.before.before.before.before.before.before.has.ensures)
+    (length_if (bit 6 s.args.flags) s.args.delay ∙ sym (size c)) (omega (arith, size c, s.pre))
 
 -- then the destination
 two : (c : tie.After-put-bytes) → let e = c.before.before in let s = start e in let o = e.before.before.before.put16-if.new.0 in
-    Front (ifThere (bit 6 s.args.flags) s.args.delay ++ s.args.destination.now) s.args.rest.now
+    Front (if_there (bit 6 s.args.flags) s.args.delay ++ s.args.destination.now) s.args.rest.now
     (put_mid e.size-if.result (length o - e.size-if.result) o c.put-bytes.new.0) (e.size-if.result + length s.args.destination.now)
 two c =
     let e = c.before.before in
-    front-more (one e) (start e).args.destination.now (omega (arith, size e, (start e).requires)) c.put-bytes.ensures
+    front_more (one e) (start e).args.destination.now (omega (arith, size e, (start e).requires)) c.put-bytes.ensures
 
 -- then the maximum size
 three : (c : tie.After-size-if2) → let d = c.before.before.before.before.before.before.before in let e = sized c in let s = start e in
     let o = e.before.before.before.put16-if.last.0 in let q = put_mid e.size-if.result (length o - e.size-if.result) o d.put-bytes.new.0 in
     let n = e.size-if.result + length s.args.destination.now in
-    Front (ifThere (bit 6 s.args.flags) s.args.delay ++ s.args.destination.now ++ ifThere (bit 7 s.args.flags) s.args.size) s.args.rest.now
+    Front (if_there (bit 6 s.args.flags) s.args.delay ++ s.args.destination.now ++ if_there (bit 7 s.args.flags) s.args.size) s.args.rest.now
     (put_mid n (length q - n) q c.before.before.before.put16-if2.new.0) (n + c.size-if2.result)
 three c =
     let d = c.before.before.before.before.before.before.before in
     let e = sized c in
     let s = start e in
-    let l = length-if (bit 7 s.args.flags) s.args.size in
+    let l = length_if (bit 7 s.args.flags) s.args.size in
     let o = e.before.before.before.put16-if.last.0 in
     let q = put_mid e.size-if.result (length o - e.size-if.result) o d.put-bytes.new.0 in
     let n = e.size-if.result + length s.args.destination.now in
     front_at _ (omega (arith, l, size2 c))
-    (front-more (two d) (ifThere (bit 7 s.args.flags) s.args.size) (omega (arith, l, size e, s.pre))
+    (front_more (two d) (if_there (bit 7 s.args.flags) s.args.size) (omega (arith, l, size e, s.pre))
     (c.before.before.before.put16-if2.ensures
-    ∙ ap (λ (b : Bool). ifThere b s.args.size atFrontOf (take (length q - n) (drop n q))) e.before.before.before.before.before.has2.ensures))
+    ∙ ap (λ (b : Bool). if_there b s.args.size at_front_of (take (length q - n) (drop n q))) e.before.before.before.before.before.has2.ensures))
 
 has-requires : tie.Need-has-requires
 has-requires c κs = search rules
@@ -143,7 +143,7 @@ returns c =
     let p = c.before.before in
     let e = p.before.before in
     let s = start (sized e) in
-    (front-more (three e) s.args.signature.now (omega (arith, size2 e, size (sized e), s.pre)) p.put-bytes2.ensures).begins
+    (front_more (three e) s.args.signature.now (omega (arith, size2 e, size (sized e), s.pre)) p.put-bytes2.ensures).begins
 
 pub options-spec : {M : Type 1} → statement M
 options-spec =

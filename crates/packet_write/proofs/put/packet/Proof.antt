@@ -6,11 +6,11 @@ use native.Mathlib.Omega.{arith}
 use lib.ListN.{length, take, drop}
 use borrow.Rule.Slice.PartMut.{put_mid}
 use Rattle.terms.specs.Ladder.{◌when◌else◌}
-use Rattle.terms.specs.Lists.{◌atFrontOf◌, joined}
-use Rattle.wire.proofs.Parts.{Front, front-first, front-more, front_at, front-inside, front-room}
+use Rattle.terms.specs.Lists.{◌at_front_of◌, joined}
+use Rattle.wire.proofs.Parts.{Front, front-first, front_more, front_at, front-inside, front-room}
 use Rattle.packet_read.specs.Flags.{bit}
-use Rattle.packet_write.specs.Writing.{headParts, optionParts, packetBytes}
-use Rattle.packet_write.proofs.Joins.{length-head, options-joined, length-options}
+use Rattle.packet_write.specs.Writing.{head_parts, option_parts, packet_bytes}
+use Rattle.packet_write.proofs.Joins.{length-head, options_joined, length_options}
 use borrow.Author.Rules.{rules}
 use Rattle.packet_write.proofs.put.packet.Statement.{statement}
 use Rattle.packet_write.proofs.put.packet.Tie as tie
@@ -22,19 +22,19 @@ abbrev sizes : tie.After-head → tie.After-before-signature
 sizes c = c.before.before
 
 -- how long the options are
-options-long : (s : tie.Start) → let f = s.args.f in
-    length (joined (optionParts f s.args.destination.now s.args.signature.now))
+options_long : (s : tie.Start) → let f = s.args.f in
+    length (joined (option_parts f s.args.destination.now s.args.signature.now))
     ≡ (2 when bit 6 f.flags else 0) + length s.args.destination.now + (2 when bit 7 f.flags else 0) + length s.args.signature.now
-options-long s = length-options s.args.f s.args.destination.now s.args.signature.now
+options_long s = length_options s.args.f s.args.destination.now s.args.signature.now
 
 -- the code's sum is that length
 size : (c : tie.After-before-signature) → let s = start c in
-    c.before-signature.result + length s.args.signature.now ≡ length (joined (optionParts s.args.f s.args.destination.now s.args.signature.now))
-size c = omega (arith, c.before-signature.ensures.0, options-long (start c))
+    c.before-signature.result + length s.args.signature.now ≡ length (joined (option_parts s.args.f s.args.destination.now s.args.signature.now))
+size c = omega (arith, c.before-signature.ensures.0, options_long (start c))
 
 -- the head is at the front
 one : (c : tie.After-head) → let e = sizes c in let s = start e in
-    Front (joined (headParts s.args.f s.args.nacks.now (e.before-signature.result + length s.args.signature.now)))
+    Front (joined (head_parts s.args.f s.args.nacks.now (e.before-signature.result + length s.args.signature.now)))
     s.args.output.now c.head.new.0 (22 + 4 * length s.args.nacks.now)
 one c =
     let s = start (sizes c) in
@@ -44,7 +44,7 @@ one c =
 two : (c : tie.After-options) → let h = c.before.before.before.before in let e = sizes h in let s = start e in let o = h.head.new.0 in
     let z = e.before-signature.result + length s.args.signature.now in
     let n = 22 + 4 * length s.args.nacks.now in
-    Front (joined (headParts s.args.f s.args.nacks.now z) ++ joined (optionParts s.args.f s.args.destination.now s.args.signature.now))
+    Front (joined (head_parts s.args.f s.args.nacks.now z) ++ joined (option_parts s.args.f s.args.destination.now s.args.signature.now))
     s.args.output.now (put_mid n (length o - n) o c.options.new.0) (n + z)
 two c =
     let h = c.before.before.before.before in
@@ -52,8 +52,8 @@ two c =
     let o = h.head.new.0 in
     let n = 22 + 4 * length s.args.nacks.now in
     front_at _ (omega (arith, size (sizes h)))
-    (front-more (one h) (joined (optionParts s.args.f s.args.destination.now s.args.signature.now)) (omega (arith, options-long s, s.pre))
-    (c.options.ensures ∙ ap (λ (w : List ℕ). w atFrontOf take (length o - n) (drop n o)) (options-joined s.args.f s.args.destination.now s.args.signature.now)))
+    (front_more (one h) (joined (option_parts s.args.f s.args.destination.now s.args.signature.now)) (omega (arith, options_long s, s.pre))
+    (c.options.ensures ∙ ap (λ (w : List ℕ). w at_front_of take (length o - n) (drop n o)) (options_joined s.args.f s.args.destination.now s.args.signature.now)))
 
 before-signature-requires : tie.Need-before-signature-requires
 before-signature-requires c κs = search rules
@@ -86,7 +86,7 @@ options-requires : tie.Need-options-requires
 options-requires c κs =
     let h = c.before.before.before in
     let s = start (sizes h) in
-    front-room (one h) _ (omega (arith, options-long s, s.pre))
+    front-room (one h) _ (omega (arith, options_long s, s.pre))
 
 add-payload-at : tie.Need-overflow-add-payload-at
 add-payload-at c = search rules
@@ -104,22 +104,22 @@ put-bytes-requires : tie.Need-put-bytes-requires
 put-bytes-requires c κs =
     let o = c.before.before.before in
     let e = sizes o.before.before.before.before in
-    front-room (two o) _ (omega (arith, size e, options-long (start e), (start e).pre))
+    front-room (two o) _ (omega (arith, size e, options_long (start e), (start e).pre))
 
 same_length : tie.Need-same-length
 same_length c = search rules
 
 returns : tie.Need-returns
-unfolding packetBytes
+unfolding packet_bytes
 returns c =
     let p = c.before.before in
     let o = p.before.before.before.before in
     let e = sizes o.before.before.before.before in
     let s = start e in
-    let options = joined (optionParts s.args.f s.args.destination.now s.args.signature.now) in
-    (front-more (two o) s.args.payload.now (omega (arith, size e, options-long s, s.pre)) p.put-bytes.ensures).begins
-    ∙ ap (λ (w : List ℕ). w atFrontOf s.args.output.now)
-    (append_assoc (joined (headParts s.args.f s.args.nacks.now (e.before-signature.result + length s.args.signature.now))) options s.args.payload.now ∙ ap (λ (k : ℕ). joined (headParts s.args.f s.args.nacks.now k) ++ (options ++ s.args.payload.now)) (size e))
+    let options = joined (option_parts s.args.f s.args.destination.now s.args.signature.now) in
+    (front_more (two o) s.args.payload.now (omega (arith, size e, options_long s, s.pre)) p.put-bytes.ensures).begins
+    ∙ ap (λ (w : List ℕ). w at_front_of s.args.output.now)
+    (append_assoc (joined (head_parts s.args.f s.args.nacks.now (e.before-signature.result + length s.args.signature.now))) options s.args.payload.now ∙ ap (λ (k : ℕ). joined (head_parts s.args.f s.args.nacks.now k) ++ (options ++ s.args.payload.now)) (size e))
 
 pub packet-spec : {M : Type 1} → statement M
 packet-spec =

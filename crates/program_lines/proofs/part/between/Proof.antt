@@ -1,6 +1,6 @@
 -- A front of what is left behind a place.
 use mathlib.Core.Path.{◌∙◌, ap}
-use Rattle.program_lines.specs.Parts.{frontOf}
+use Rattle.program_lines.specs.Parts.{front_of}
 use borrow.Author.Rules.{rules}
 use Rattle.program_lines.proofs.part.between.Statement.{statement}
 use Rattle.program_lines.proofs.part.between.Tie as tie
@@ -12,7 +12,7 @@ front-requires : tie.Need-front-requires
 front-requires c κs = search rules
 
 returns : tie.Need-returns
-returns c = c.front.ensures ∙ ap (frontOf c.before.before.before.args.len) c.before.after.ensures
+returns c = c.front.ensures ∙ ap (front_of c.before.before.before.args.len) c.before.after.ensures
 
 pub between-spec : {M : Type 1} → statement M
 between-spec = tie.close (tie.spec after-requires front-requires returns)

@@ -13,8 +13,8 @@ decreases-loop bank₀ from to n i₀ bank i = n - i
 loop-holds : tie.Need-loop-init invariant-loop decreases-loop
 loop-holds c = search rules
 
-add-value : tie.Need-overflow-add-value invariant-loop decreases-loop
-add-value c = search rules
+add_value : tie.Need-overflow-add-value invariant-loop decreases-loop
+add_value c = search rules
 
 value-requires : tie.Need-value-requires invariant-loop decreases-loop
 value-requires c κs = search rules
@@ -44,7 +44,7 @@ copy_spec =
     invariant-loop
     decreases-loop
     loop-holds
-    add-value
+    add_value
     value-requires
     add-put
     put-requires

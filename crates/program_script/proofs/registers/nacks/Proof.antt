@@ -2,19 +2,19 @@
 use Prim.Native.Nat.{◌-◌}
 use mathlib.Core.Path.{refl}
 use borrow.Author.Rules.{rules}
-use Rattle.program_script.specs.Numbers.{nackIn}
-use Rattle.program_script.proofs.Filling.{Filling, filling-none, filling-more, filling-all}
+use Rattle.program_script.specs.Numbers.{nack_in}
+use Rattle.program_script.proofs.Filling.{Filling, filling_none, filling_more, filling_all}
 use Rattle.program_script.proofs.registers.nacks.Statement.{statement}
 use Rattle.program_script.proofs.registers.nacks.Tie as tie
 
 abbrev invariant-loop : tie.invariant-loop
-invariant-loop bank nacks₀ i₀ nacks i = Filling (nackIn bank) 300 i nacks
+invariant-loop bank nacks₀ i₀ nacks i = Filling (nack_in bank) 300 i nacks
 
 abbrev decreases-loop : tie.decreases-loop
 decreases-loop bank nacks₀ i₀ nacks i = 300 - i
 
 loop-holds : tie.Need-loop-init invariant-loop decreases-loop
-loop-holds c = filling-none _ _ _ refl
+loop-holds c = filling_none _ _ _ refl
 
 add-word32 : tie.Need-overflow-add-word32 invariant-loop decreases-loop
 add-word32 c = search rules
@@ -35,10 +35,10 @@ loop-less : tie.Need-loop-smaller invariant-loop decreases-loop
 loop-less c = search rules
 
 loop-again : tie.Need-loop-preserved invariant-loop decreases-loop
-loop-again c = filling-more _ _ _ _ _ c.before.loop-test.true c.word32.ensures c.before.before.loop.invariant
+loop-again c = filling_more _ _ _ _ _ c.before.loop-test.true c.word32.ensures c.before.before.loop.invariant
 
 returns : tie.Need-returns invariant-loop decreases-loop
-returns c = filling-all _ _ _ _ c.loop-test.false c.before.loop.invariant
+returns c = filling_all _ _ _ _ c.loop-test.false c.before.loop.invariant
 
 pub nacks-spec : {M : Type 1} → statement M
 nacks-spec =

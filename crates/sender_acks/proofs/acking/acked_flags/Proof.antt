@@ -1,20 +1,20 @@
 -- `sender_acks::acking::acked_flags` meets its contract: after i turns the first i places are flagged. Assumes nothing.
 use Prim.Native.Nat.{◌-◌}
 use mathlib.Core.Path.{refl}
-use Rattle.sender_acks.specs.Acks.{ackedAt}
-use Rattle.sender_acks.proofs.Tables.{Flagging, flag-start, flag-more, flag-end}
+use Rattle.sender_acks.specs.Acks.{acked_at}
+use Rattle.sender_acks.proofs.Tables.{Flagging, flag_start, flag_more, flag_end}
 use borrow.Author.Rules.{rules}
 use Rattle.sender_acks.proofs.acking.acked_flags.Statement.{statement}
 use Rattle.sender_acks.proofs.acking.acked_flags.Tie as tie
 
 abbrev invariant-loop : tie.invariant-loop
-invariant-loop numbers marks through nacks flags₀ i₀ flags i = Flagging (ackedAt numbers marks through nacks) flags i
+invariant-loop numbers marks through nacks flags₀ i₀ flags i = Flagging (acked_at numbers marks through nacks) flags i
 
 abbrev decreases-loop : tie.decreases-loop
 decreases-loop numbers marks through nacks flags₀ i₀ flags i = 192 - i
 
 loop-holds : tie.Need-loop-init invariant-loop decreases-loop
-loop-holds c = flag-start _ _ refl
+loop-holds c = flag_start _ _ refl
 
 mul-acked-flag : tie.Need-overflow-mul-acked-flag invariant-loop decreases-loop
 mul-acked-flag c = search rules
@@ -46,10 +46,10 @@ loop-less c = search rules
 loop-again : tie.Need-loop-preserved invariant-loop decreases-loop
 loop-again c =
     let h = c.before.before.before.before in
-    flag-more _ _ _ h.loop.invariant c.before.before.before.loop-test.true _ c.acked-flag.ensures
+    flag_more _ _ _ h.loop.invariant c.before.before.before.loop-test.true _ c.acked-flag.ensures
 
 returns : tie.Need-returns invariant-loop decreases-loop
-returns c = flag-end _ _ _ c.before.loop.invariant c.loop-test.false
+returns c = flag_end _ _ _ c.before.loop.invariant c.loop-test.false
 
 pub acked-flags-spec : {M : Type 1} → statement M
 acked-flags-spec =

@@ -4,7 +4,7 @@ use mathlib.Core.Path.{◌≡◌}
 use native.Mathlib.Omega.{arith}
 use lib.ListN.{length}
 use Rattle.sender_state.proofs.Facts.{ruled}
-use Rattle.sender_acks.proofs.Freeing.{tidy-flags, acks-made}
+use Rattle.sender_acks.proofs.Freeing.{tidy_flags, acks-made}
 use borrow.Author.Rules.{rules}
 use Rattle.sender_acks.proofs.acking.acks_done.Statement.{statement}
 use Rattle.sender_acks.proofs.acking.acks_done.Tie as tie
@@ -34,7 +34,7 @@ measure-requires : tie.Need-measure-requires
 measure-requires c κs =
     let f = c.before.before.before.before.before.before.before.before in
     let a = f.before.before.before.before.before.before.before in (
-      tidy-flags a.args.t1 (row a) (table a) (width a) a.args.through a.args.nacks.now f.acked-flags.result f.acked-flags.ensures (ruled a.args.t1 a.requires),
+      tidy_flags a.args.t1 (row a) (table a) (width a) a.args.through a.args.nacks.now f.acked-flags.result f.acked-flags.ensures (ruled a.args.t1 a.requires),
       times a,
       marked a,
     )

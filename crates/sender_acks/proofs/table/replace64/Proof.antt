@@ -1,19 +1,19 @@
 -- `sender_acks::table::replace64` meets its contract: after i turns the first i places are done. Assumes nothing.
 use Prim.Native.Nat.{◌-◌}
-use Rattle.sender_state.specs.Numbers.{markedWith}
-use Rattle.sender_state.proofs.Replaced.{Replacing, replace-start, replace-more, replace-end}
+use Rattle.sender_state.specs.Numbers.{marked_with}
+use Rattle.sender_state.proofs.Replaced.{Replacing, replace_start, replace_more, replace_end}
 use borrow.Author.Rules.{rules}
 use Rattle.sender_acks.proofs.table.replace64.Statement.{statement}
 use Rattle.sender_acks.proofs.table.replace64.Tie as tie
 
 abbrev invariant-loop : tie.invariant-loop
-invariant-loop list₀ flags value i₀ list i = Replacing value (markedWith 1 flags) list₀ list i
+invariant-loop list₀ flags value i₀ list i = Replacing value (marked_with 1 flags) list₀ list i
 
 abbrev decreases-loop : tie.decreases-loop
 decreases-loop list₀ flags value i₀ list i = 192 - i
 
 loop-holds : tie.Need-loop-init invariant-loop decreases-loop
-loop-holds c = replace-start _ _ _ (search rules)
+loop-holds c = replace_start _ _ _ (search rules)
 
 mul-chosen64 : tie.Need-overflow-mul-chosen64 invariant-loop decreases-loop
 mul-chosen64 c = search rules
@@ -45,10 +45,10 @@ loop-less c = search rules
 loop-again : tie.Need-loop-preserved invariant-loop decreases-loop
 loop-again c =
     let h = c.before.before.before.before in
-    replace-more _ _ _ _ _ h.loop.invariant c.before.before.before.loop-test.true _ c.chosen64.ensures
+    replace_more _ _ _ _ _ h.loop.invariant c.before.before.before.loop-test.true _ c.chosen64.ensures
 
 returns : tie.Need-returns invariant-loop decreases-loop
-returns c = replace-end _ _ _ _ _ c.before.loop.invariant (search rules) (search rules)
+returns c = replace_end _ _ _ _ _ c.before.loop.invariant (search rules) (search rules)
 
 pub replace64-spec : {M : Type 1} → statement M
 replace64-spec =

@@ -1,7 +1,7 @@
 -- `sender_resend::again::find_expired` meets its contract: the numbers in flight below end are old, and low heads the rest. Assumes nothing.
 use Prim.Native.Nat.{◌-◌, ◌<◌}
 use native.Mathlib.Omega.{arith}
-use Rattle.sender_resend.proofs.Expiry.{Expiring, expire-start, expire-some, expire-place, expire-none, expire-young, expire-more, expire-full}
+use Rattle.sender_resend.proofs.Expiry.{Expiring, expire_start, expire_some, expire_place, expire_none, expire_young, expire_more, expire_full}
 use borrow.Author.Rules.{rules}
 use Rattle.sender_resend.proofs.again.find_expired.Statement.{statement}
 use Rattle.sender_resend.proofs.again.find_expired.Tie as tie
@@ -15,16 +15,16 @@ decreases-loop numbers sent marks next clock rto window count₀ end₀ low₀ c
 placed : (c : tie.After-place-of invariant-loop decreases-loop) → c.place_of.result < 192
 placed c =
     let p = c.before.before.before.before.before.before.before.before.requires.0 in
-    rw c.place_of.ensures (expire-place _ _ _ _ _ _ _ _ _ _ c.before.before.before.loop.invariant p.table c.before.if1.false)
+    rw c.place_of.ensures (expire_place _ _ _ _ _ _ _ _ _ _ c.before.before.before.loop.invariant p.table c.before.if1.false)
 
 least-requires : tie.Need-least-requires invariant-loop decreases-loop
 least-requires c κs = let p = c.before.before.before.requires.0 in (p.row, p.table)
 
 loop-holds : tie.Need-loop-init invariant-loop decreases-loop
-loop-holds c = expire-start _ _ _ _ _ _ _ c.before.before.before.before.requires.0 _ c.least.ensures
+loop-holds c = expire_start _ _ _ _ _ _ _ c.before.before.before.before.requires.0 _ c.least.ensures
 
 returns : tie.Need-returns invariant-loop decreases-loop
-returns c = expire-none _ _ _ _ _ _ _ _ _ _ c.before.before.loop.invariant c.if1.true
+returns c = expire_none _ _ _ _ _ _ _ _ _ _ c.before.before.loop.invariant c.if1.true
 
 place-of-requires : tie.Need-place-of-requires invariant-loop decreases-loop
 place-of-requires c κs = search rules
@@ -40,13 +40,13 @@ sub-if2 c = c.before.before.before.before.before.before.before.before.before.req
 
 returns-2 : tie.Need-returns-2 invariant-loop decreases-loop
 returns-2 c =
-    expire-young _ _ _ _ _ _ _ _ _ _ c.before.before.before.before.before.loop.invariant c.before.before.before.if1.false (rw c.before.before.place_of.ensures at c.if2.true)
+    expire_young _ _ _ _ _ _ _ _ _ _ c.before.before.before.before.before.loop.invariant c.before.before.before.if1.false (rw c.before.before.place_of.ensures at c.if2.true)
 
 add-count : tie.Need-overflow-add-count invariant-loop decreases-loop
 add-count c = search rules
 
 add-end : tie.Need-overflow-add-end invariant-loop decreases-loop
-add-end c = omega (arith, expire-some _ _ _ _ _ _ _ _ _ _ c.before.before.before.before.before.loop.invariant c.before.before.before.if1.false)
+add-end c = omega (arith, expire_some _ _ _ _ _ _ _ _ _ _ c.before.before.before.before.before.loop.invariant c.before.before.before.if1.false)
 
 least-requires-2 : tie.Need-least-requires-2 invariant-loop decreases-loop
 least-requires-2 c κs = let p = c.before.before.before.before.before.before.before.before.before.before.requires.0 in (p.row, p.table)
@@ -56,10 +56,10 @@ loop-less c = search rules
 
 loop-again : tie.Need-loop-preserved invariant-loop decreases-loop
 loop-again c =
-    expire-more _ _ _ _ _ _ _ _ _ _ c.before.before.before.before.before.before.loop.invariant c.before.before.before.before.before.before.before.before.before.before.before.requires.0 c.before.before.before.before.before.loop-test.true c.before.before.before.before.if1.false (rw c.before.before.before.place_of.ensures at c.before.if2.false) _ c.least2.ensures
+    expire_more _ _ _ _ _ _ _ _ _ _ c.before.before.before.before.before.before.loop.invariant c.before.before.before.before.before.before.before.before.before.before.before.requires.0 c.before.before.before.before.before.loop-test.true c.before.before.before.before.if1.false (rw c.before.before.before.place_of.ensures at c.before.if2.false) _ c.least2.ensures
 
 returns-3 : tie.Need-returns-3 invariant-loop decreases-loop
-returns-3 c = expire-full _ _ _ _ _ _ _ _ _ _ c.before.loop.invariant c.loop-test.false
+returns-3 c = expire_full _ _ _ _ _ _ _ _ _ _ c.before.loop.invariant c.loop-test.false
 
 pub find-expired-spec : {M : Type 1} → statement M
 find-expired-spec =

@@ -2,18 +2,18 @@
 use mathlib.Core.Path.{◌≡◌, sym, ◌∙◌}
 use mathlib.Core.Bool.{true, false}
 use borrow.Author.Tests.{not-true, not-false}
-use Rattle.sender_state.specs.Rules.{rules, countsFit, clockWrong}
-use Rattle.sender_resend.specs.Resend.{resendRefusal}
+use Rattle.sender_state.specs.Rules.{rules, counts_fit, clock_wrong}
+use Rattle.sender_resend.specs.Resend.{resend_refusal}
 use borrow.Author.Rules.{rules}
 use Rattle.sender_resend.proofs.again.judge_resend.Statement.{statement}
 use Rattle.sender_resend.proofs.again.judge_resend.Tie as tie
 
 -- past the first three tests
 judged : (c : tie.Else3) → let a = c.before.before.before.before.before.before.args in
-    (rules a.s ≡ true) × (countsFit a.s.chunk a.s.count ≡ true) × (clockWrong a.s.clock a.clock ≡ false)
+    (rules a.s ≡ true) × (counts_fit a.s.chunk a.s.count ≡ true) × (clock_wrong a.s.clock a.clock ≡ false)
 judged c = (
   sym c.before.before.before.before.before.valid.ensures ∙ not-false _ c.before.before.before.before.if1.left,
-  sym c.before.before.before.counts-fit.ensures ∙ not-false _ c.before.before.if2.left,
+  sym c.before.before.before.counts_fit_lem.ensures ∙ not-false _ c.before.before.if2.left,
   sym c.before.clock-wrong.ensures ∙ c.if3.left,
 )
 
@@ -21,37 +21,37 @@ valid-requires : tie.Need-valid-requires
 valid-requires c κs = search rules
 
 returns : tie.Need-returns
-unfolding resendRefusal
+unfolding resend_refusal
 returns c = simp (sym c.before.valid.ensures ∙ not-true _ c.if1.taken)
 
 counts-fit-requires : tie.Need-counts-fit-requires
 counts-fit-requires c κs = search rules
 
 returns-2 : tie.Need-returns-2
-unfolding resendRefusal
+unfolding resend_refusal
 returns-2 c =
     let v = sym c.before.before.before.valid.ensures ∙ not-false _ c.before.before.if1.left in
-    simp (v, sym c.before.counts-fit.ensures ∙ not-true _ c.if2.taken)
+    simp (v, sym c.before.counts_fit_lem.ensures ∙ not-true _ c.if2.taken)
 
 clock-wrong-requires : tie.Need-clock-wrong-requires
 clock-wrong-requires c κs = search rules
 
 returns-3 : tie.Need-returns-3
-unfolding resendRefusal
+unfolding resend_refusal
 returns-3 c =
     let v = sym c.before.before.before.before.before.valid.ensures ∙ not-false _ c.before.before.before.before.if1.left in
-    let z = sym c.before.before.before.counts-fit.ensures ∙ not-false _ c.before.before.if2.left in
+    let z = sym c.before.before.before.counts_fit_lem.ensures ∙ not-false _ c.before.before.if2.left in
     simp (v, z, sym c.before.clock-wrong.ensures ∙ c.if3.taken)
 
 due-requires : tie.Need-due-requires
 due-requires c κs = search rules
 
 returns-4 : tie.Need-returns-4
-unfolding resendRefusal
+unfolding resend_refusal
 returns-4 c = let j = judged c.before.before in simp (j.0, j.1, j.2, sym c.before.due.ensures ∙ not-true _ c.if4.taken)
 
 returns-5 : tie.Need-returns-5
-unfolding resendRefusal
+unfolding resend_refusal
 returns-5 c = let j = judged c.before.before in simp (j.0, j.1, j.2, sym c.before.due.ensures ∙ not-false _ c.if4.left)
 
 pub judge-resend-spec : {M : Type 1} → statement M

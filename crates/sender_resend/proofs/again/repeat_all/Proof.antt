@@ -1,19 +1,19 @@
 -- `sender_resend::again::repeat_all` meets its contract: after i turns the first i places are done. Assumes nothing.
 use Prim.Native.Nat.{◌-◌}
-use Rattle.sender_resend.specs.Steps.{flyingBelow}
-use Rattle.sender_state.proofs.Replaced.{Replacing, replace-start, replace-more, replace-end}
+use Rattle.sender_resend.specs.Steps.{flying_below}
+use Rattle.sender_state.proofs.Replaced.{Replacing, replace_start, replace_more, replace_end}
 use borrow.Author.Rules.{rules}
 use Rattle.sender_resend.proofs.again.repeat_all.Statement.{statement}
 use Rattle.sender_resend.proofs.again.repeat_all.Tie as tie
 
 abbrev invariant-loop : tie.invariant-loop
-invariant-loop resent₀ numbers marks end i₀ resent i = Replacing 1 (flyingBelow numbers marks end) resent₀ resent i
+invariant-loop resent₀ numbers marks end i₀ resent i = Replacing 1 (flying_below numbers marks end) resent₀ resent i
 
 abbrev decreases-loop : tie.decreases-loop
 decreases-loop resent₀ numbers marks end i₀ resent i = 192 - i
 
 loop-holds : tie.Need-loop-init invariant-loop decreases-loop
-loop-holds c = replace-start _ _ _ (search rules)
+loop-holds c = replace_start _ _ _ (search rules)
 
 mul-repeat : tie.Need-overflow-mul-repeat invariant-loop decreases-loop
 mul-repeat c = search rules
@@ -51,10 +51,10 @@ loop-less c = search rules
 loop-again : tie.Need-loop-preserved invariant-loop decreases-loop
 loop-again c =
     let h = c.before.before.before.before.before in
-    replace-more _ _ _ _ _ h.loop.invariant c.before.before.before.before.loop-test.true _ c.repeat.ensures
+    replace_more _ _ _ _ _ h.loop.invariant c.before.before.before.before.loop-test.true _ c.repeat.ensures
 
 returns : tie.Need-returns invariant-loop decreases-loop
-returns c = replace-end _ _ _ _ _ c.before.loop.invariant (search rules) (search rules)
+returns c = replace_end _ _ _ _ _ c.before.loop.invariant (search rules) (search rules)
 
 pub repeat-all-spec : {M : Type 1} → statement M
 repeat-all-spec =

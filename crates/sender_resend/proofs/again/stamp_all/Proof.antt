@@ -1,19 +1,19 @@
 -- `sender_resend::again::stamp_all` meets its contract: after i turns the first i places are done. Assumes nothing.
 use Prim.Native.Nat.{◌-◌}
-use Rattle.sender_resend.specs.Steps.{flyingBelow}
-use Rattle.sender_state.proofs.Replaced.{Replacing, replace-start, replace-more, replace-end}
+use Rattle.sender_resend.specs.Steps.{flying_below}
+use Rattle.sender_state.proofs.Replaced.{Replacing, replace_start, replace_more, replace_end}
 use borrow.Author.Rules.{rules}
 use Rattle.sender_resend.proofs.again.stamp_all.Statement.{statement}
 use Rattle.sender_resend.proofs.again.stamp_all.Tie as tie
 
 abbrev invariant-loop : tie.invariant-loop
-invariant-loop sent₀ numbers marks end clock i₀ sent i = Replacing clock (flyingBelow numbers marks end) sent₀ sent i
+invariant-loop sent₀ numbers marks end clock i₀ sent i = Replacing clock (flying_below numbers marks end) sent₀ sent i
 
 abbrev decreases-loop : tie.decreases-loop
 decreases-loop sent₀ numbers marks end clock i₀ sent i = 192 - i
 
 loop-holds : tie.Need-loop-init invariant-loop decreases-loop
-loop-holds c = replace-start _ _ _ (search rules)
+loop-holds c = replace_start _ _ _ (search rules)
 
 mul-stamp : tie.Need-overflow-mul-stamp invariant-loop decreases-loop
 mul-stamp c = search rules
@@ -51,10 +51,10 @@ loop-less c = search rules
 loop-again : tie.Need-loop-preserved invariant-loop decreases-loop
 loop-again c =
     let h = c.before.before.before.before.before in
-    replace-more _ _ _ _ _ h.loop.invariant c.before.before.before.before.loop-test.true _ c.stamp.ensures
+    replace_more _ _ _ _ _ h.loop.invariant c.before.before.before.before.loop-test.true _ c.stamp.ensures
 
 returns : tie.Need-returns invariant-loop decreases-loop
-returns c = replace-end _ _ _ _ _ c.before.loop.invariant (search rules) (search rules)
+returns c = replace_end _ _ _ _ _ c.before.loop.invariant (search rules) (search rules)
 
 pub stamp-all-spec : {M : Type 1} → statement M
 stamp-all-spec =

@@ -5,12 +5,12 @@ use mathlib.Core.Bool.{true, false}
 use native.Mathlib.Omega.{arith}
 use borrow.Author.Tests.{le-leb, lt-leb, lt-ltb, le-ltb, not-true, not-false}
 use lib.ListN.{length}
-use Rattle.sender_state.specs.Table.{◌!◌, countOf, placeOf}
-use Rattle.sender_state.specs.Rules.{rules, sizesFit, clockWrong}
+use Rattle.sender_state.specs.Table.{◌!◌, count_of, place_of}
+use Rattle.sender_state.specs.Rules.{rules, sizes_fit, clock_wrong}
 use Rattle.sender_state.proofs.Facts.{ruled, sized}
-use Rattle.sender_state.specs.Numbers.{waiting, size_of, markedWith}
-use Rattle.sender_send.specs.Send.{sendSaid}
-use Rattle.sender_send.proofs.Ranks.{rank-missing, Ranked, ranked-there}
+use Rattle.sender_state.specs.Numbers.{waiting, size_of, marked_with}
+use Rattle.sender_send.specs.Send.{send_said}
+use Rattle.sender_send.proofs.Ranks.{rank_missing, Ranked, ranked_there}
 use Rattle.sender_state.proofs.Search.{tidy}
 use borrow.Author.Rules.{rules}
 use Rattle.sender_send.proofs.going.judge_send.Statement.{statement}
@@ -27,7 +27,7 @@ width c = let a = c.before in omega (arith, a.good)
 
 -- past the first three tests
 judged : (c : tie.Else3) → let a = c.before.before.before.before.before.before.args in
-    (rules a.t1 ≡ true) × (sizesFit a.t1.chunk a.t1.count a.store_length ≡ true) × (clockWrong a.t1.clock a.clock ≡ false)
+    (rules a.t1 ≡ true) × (sizes_fit a.t1.chunk a.t1.count a.store_length ≡ true) × (clock_wrong a.t1.clock a.clock ≡ false)
 judged c = (
   sym c.before.before.before.before.before.valid.ensures ∙ not-false _ c.before.before.before.before.if1.left,
   sym c.before.before.before.sizes-fit.ensures ∙ not-false _ c.before.before.if2.left,
@@ -39,10 +39,10 @@ found : (c : tie.Else4) → let v = c.before.before.before.before.before.before.
 found c =
     let v = c.before.before.before.before.before.before.before.before.before.before.before.before in
     let a = c.before.before.before.before.before.before.before.before.before.before.before.before.before.args in
-    ranked-there a.t1 (row v) (table v) (width v) 1 0 c.before.ranked.result (omega arith) c.before.ranked.ensures c.if4.left
+    ranked_there a.t1 (row v) (table v) (width v) 1 0 c.before.ranked.result (omega arith) c.before.ranked.ensures c.if4.left
 
 -- past the fifth: the window has room
-roomy : (c : tie.Else5) → let a = c.before.before.before.before.before.before.before.before.before.before.before.before.before.before.before.before.before.before.args in countOf 2 a.t1.marks < a.t1.window
+roomy : (c : tie.Else5) → let a = c.before.before.before.before.before.before.before.before.before.before.before.before.before.before.before.before.before.before.args in count_of 2 a.t1.marks < a.t1.window
 roomy c = omega (arith, c.before.count_of.ensures, c.if5.left)
 
 placed : (c : tie.After-place-of) → c.place_of.result < 192
@@ -52,7 +52,7 @@ placed c = rw c.place_of.ensures (found c.before.before.before.before.before.bef
 same : (c : tie.After-place-of) → let a = c.before.before.before.before.before.before.before.before.before.before.before.before.before.before.before.before.before.before.before.before.before.before.args in a.t1.lengths ! c.place_of.result ≡ size_of a.t1 (waiting a.t1 ! 0)
 same c =
     let a = c.before.before.before.before.before.before.before.before.before.before.before.before.before.before.before.before.before.before.before.before.before.before.args in
-    ap (λ i. a.t1.lengths ! i) (c.place_of.ensures ∙ ap (placeOf a.t1.numbers) (found c.before.before.before.before.before.before.before.before.before).is)
+    ap (λ i. a.t1.lengths ! i) (c.place_of.ensures ∙ ap (place_of a.t1.numbers) (found c.before.before.before.before.before.before.before.before.before).is)
 
 within : (c : tie.After-place-of) → let a = c.before.before.before.before.before.before.before.before.before.before.before.before.before.before.before.before.before.before.before.before.before.before.args in a.t1.lengths ! c.place_of.result ≤ 2856
 within c =
@@ -61,20 +61,20 @@ within c =
     let v = e.before.before.before.before.before.before.before.before.before.before.before.before in
     let j = judged e.before.before.before.before.before.before.before in
     let stored : a.t1.marks ! c.place_of.result ≡ 1 = rw c.place_of.ensures (found e).marked in
-    omega (arith, (ruled a.t1 j.0).short c.place_of.result (omega (arith, placed c, table v)) (λ z. omega arith), (sized a.t1.chunk a.t1.count a.store_length j.1).counts.chunk-most)
+    omega (arith, (ruled a.t1 j.0).short c.place_of.result (omega (arith, placed c, table v)) (λ z. omega arith), (sized a.t1.chunk a.t1.count a.store_length j.1).counts.chunk_most)
 
 valid-requires : tie.Need-valid-requires
 valid-requires c κs = search rules
 
 returns : tie.Need-returns
-unfolding sendSaid
+unfolding send_said
 returns c = simp (sym c.before.valid.ensures ∙ not-true _ c.if1.taken)
 
 sizes-fit-requires : tie.Need-sizes-fit-requires
 sizes-fit-requires c κs = search rules
 
 returns-2 : tie.Need-returns-2
-unfolding sendSaid
+unfolding send_said
 returns-2 c =
     let v = sym c.before.before.before.valid.ensures ∙ not-false _ c.before.before.if1.left in
     simp (v, sym c.before.sizes-fit.ensures ∙ not-true _ c.if2.taken)
@@ -83,7 +83,7 @@ clock-wrong-requires : tie.Need-clock-wrong-requires
 clock-wrong-requires c κs = search rules
 
 returns-3 : tie.Need-returns-3
-unfolding sendSaid
+unfolding send_said
 returns-3 c =
     let v = sym c.before.before.before.before.before.valid.ensures ∙ not-false _ c.before.before.before.before.if1.left in
     let z = sym c.before.before.before.sizes-fit.ensures ∙ not-false _ c.before.before.if2.left in
@@ -96,12 +96,12 @@ ranked-requires c κs =
     tidy a.t1 (row v) (table v) (width v) (ruled a.t1 (judged c.before.before.before.before.before).0) 1 (omega arith)
 
 returns-4 : tie.Need-returns-4
-unfolding sendSaid
+unfolding send_said
 returns-4 c =
     let v = c.before.before.before.before.before.before.before.before.before.before.before.before in
     let a = c.before.before.before.before.before.before.before.before.before.before.before.before.before.args in
     let j = judged c.before.before.before.before.before.before.before in
-    simp (j.0, j.1, j.2, le-leb _ _ (rank-missing a.t1.numbers a.t1.next.0 (markedWith 1 a.t1.marks) (width v) 0 (sym c.before.ranked.ensures ∙ c.if4.taken)))
+    simp (j.0, j.1, j.2, le-leb _ _ (rank_missing a.t1.numbers a.t1.next.0 (marked_with 1 a.t1.marks) (width v) 0 (sym c.before.ranked.ensures ∙ c.if4.taken)))
 
 count-of-requires : tie.Need-count-of-requires
 count-of-requires c κs = search rules
@@ -110,12 +110,12 @@ cast-if5 : tie.Need-cast-if5
 cast-if5 c = search rules
 
 returns-5 : tie.Need-returns-5
-unfolding sendSaid
+unfolding send_said
 returns-5 c =
     let e = c.before.before.before.before.before in
     let a = e.before.before.before.before.before.before.before.before.before.before.before.before.before.args in
     let j = judged e.before.before.before.before.before.before.before in
-    simp (j.0, j.1, j.2, lt-leb _ _ (found e).inside, le-leb a.t1.window (countOf 2 a.t1.marks) (omega (arith, c.before.count_of.ensures, c.if5.taken)))
+    simp (j.0, j.1, j.2, lt-leb _ _ (found e).inside, le-leb a.t1.window (count_of 2 a.t1.marks) (omega (arith, c.before.count_of.ensures, c.if5.taken)))
 
 place-of-requires : tie.Need-place-of-requires
 place-of-requires c κs = search rules
@@ -130,23 +130,23 @@ cast-size : tie.Need-cast-size
 cast-size c = omega (arith, within c.before)
 
 returns-6 : tie.Need-returns-6
-unfolding sendSaid
+unfolding send_said
 returns-6 c =
     let p = c.before.before in
     let e = p.before.before.before.before.before.before.before.before.before in
     let a = e.before.before.before.before.before.before.before.before.before.before.before.before.before.args in
     let j = judged e.before.before.before.before.before.before.before in
-    let q = lt-leb a.t1.window (countOf 2 a.t1.marks) (roomy p.before.before.before.before) in
+    let q = lt-leb a.t1.window (count_of 2 a.t1.marks) (roomy p.before.before.before.before) in
     simp (j.0, j.1, j.2, lt-leb _ _ (found e).inside, q, lt-ltb a.room (size_of a.t1 (waiting a.t1 ! 0)) (omega (arith, same p, c.if6.taken)))
 
 returns-7 : tie.Need-returns-7
-unfolding sendSaid
+unfolding send_said
 returns-7 c =
     let p = c.before.before in
     let e = p.before.before.before.before.before.before.before.before.before in
     let a = e.before.before.before.before.before.before.before.before.before.before.before.before.before.args in
     let j = judged e.before.before.before.before.before.before.before in
-    let q = lt-leb a.t1.window (countOf 2 a.t1.marks) (roomy p.before.before.before.before) in
+    let q = lt-leb a.t1.window (count_of 2 a.t1.marks) (roomy p.before.before.before.before) in
     rw (same p, (found e).is)
     (simp (j.0, j.1, j.2, lt-leb _ _ (found e).inside, q, le-ltb a.room (size_of a.t1 (waiting a.t1 ! 0)) (omega (arith, same p, c.if6.left))))
 

@@ -1,6 +1,6 @@
 -- `timer::Timing::rto` meets its contract: each arm knows the variant, and `held` gives what the definition holds. Assumes nothing.
 use borrow.Author.Rules.{rules}
-use Rattle.timer.specs.Timer.{rtoOf}
+use Rattle.timer.specs.Timer.{rto_of}
 use Rattle.timer.proofs.Timing.rto.Statement.{statement}
 use Rattle.timer.proofs.Timing.rto.Tie as tie
 
@@ -26,11 +26,11 @@ held-requires : tie.Need-held-requires
 held-requires c κs = search rules
 
 returns : tie.Need-returns
-unfolding rtoOf
+unfolding rto_of
 returns c = search rules
 
 returns-2 : tie.Need-returns-2
-unfolding rtoOf
+unfolding rto_of
 returns-2 c = rw c.before.before.self.given.1 c.held.ensures
 
 pub rto-spec : {M : Type 1} → statement M

@@ -1,6 +1,6 @@
 -- `timer::Timing::sampled` meets its contract: each arm knows the variant, and the two callees give its next numbers. Assumes nothing.
 use borrow.Author.Rules.{rules}
-use Rattle.timer.specs.Timer.{sampledOf}
+use Rattle.timer.specs.Timer.{sampled_of}
 use Rattle.timer.proofs.Timing.sampled.Statement.{statement}
 use Rattle.timer.proofs.Timing.sampled.Tie as tie
 
@@ -17,11 +17,11 @@ deviated-requires : tie.Need-deviated-requires
 deviated-requires c κs = search rules
 
 returns : tie.Need-returns
-unfolding sampledOf
+unfolding sampled_of
 returns c = rw c.enum_told.given.1
 
 returns-2 : tie.Need-returns-2
-unfolding sampledOf
+unfolding sampled_of
 returns-2 c =
     rw (c.before.before.before.self.given.1, c.before.smoothed.ensures, c.deviated.ensures)
 
