@@ -1,5 +1,7 @@
 // Reads a script of calls from standard input and answers each with a line: docs/DRIVE.md has the format, and the crate `drive_format` is that format.
 // A call is taken into the registers, made by the crate of its topic, and told from the registers.
+#![tactic(auto)]
+
 mod timing;
 
 use drive_format::{take, tell};

@@ -1,4 +1,6 @@
 // The format of docs/DRIVE.md: what each letter asks, how it is read from the script, and how its call is told.
+#![tactic(auto)]
+
 mod input;
 mod output;
 mod table;

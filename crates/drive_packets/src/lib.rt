@@ -1,4 +1,6 @@
 // What `drive` calls on packets: 'r' reads one, 'd' judges a destination, 'w' writes a packet. What each asks stands in the registers, and its answer goes there.
+#![tactic(auto)]
+
 use packet_read::{Packet, Reading};
 use packet_write::{Fields, Writing};
 use program_lines::part;

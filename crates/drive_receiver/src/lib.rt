@@ -1,5 +1,7 @@
 // What `drive` calls on a receiver: 'S' starts it, 'R' and 'B' set its state and its store, 'a' accepts, 't' takes, 'k' acknowledges, 'y' asks why.
 // The state and what a call asks stand in the registers, and its answer goes there.
+#![tactic(auto)]
+
 ghost use Rattle.program_script.specs.Numbers.{Filled};
 ghost use Rattle.drive_receiver.specs.Registers.{mark_in, HeadIn, ReceiverIn};
 

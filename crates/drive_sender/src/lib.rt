@@ -1,5 +1,7 @@
 // What `drive` calls on a sender's state: 'Z' starts it, 'P' and 'D' set its state and its store, 'v' judges the state, 'c' takes acks, 'e' resends.
 // The state and what a call asks stand in the registers, and its answer goes there. The calls that move packets are in `drive_stored`.
+#![tactic(auto)]
+
 use drive_state::tell;
 use program_lines::part;
 use program_script::registers;

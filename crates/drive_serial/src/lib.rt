@@ -1,5 +1,7 @@
 // What `drive` calls on the reader of a serial line: 'L' starts it, 'I' and 'F' set its state and its buffer, 'i' feeds it. The state and what a call asks
 // stand in the registers, and its answer goes there.
+#![tactic(auto)]
+
 use program_lines::part;
 use program_script::registers::{Bank, Bytes, COUNT, LINE, LINE_BUFFER, Output, SUM};
 use program_script::{registers, sum};

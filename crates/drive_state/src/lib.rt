@@ -1,4 +1,6 @@
 // The sender of the registers: its ten numbers, and its 192 places with five numbers each; and what calls on a receiver or a sender answer there.
+#![tactic(auto)]
+
 pub mod tell;
 
 ghost use Rattle.std.specs.Prelude.{◌≡◌};

@@ -1,5 +1,7 @@
 // What `drive` calls on a sender and its packets: 'u' submits, 's' sends, 'h' fetches. The state and what a call asks stand in the registers, and its
 // answer goes there.
+#![tactic(auto)]
+
 use drive_state::tell;
 use program_lines::part;
 use program_script::registers::{Bank, Bytes, Output, SENDER_STORE, SUM, Store};

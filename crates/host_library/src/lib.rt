@@ -1,6 +1,8 @@
 // The receiving half of a stream for hosts in C, as a static library: reading a packet, a receiver that is changed in
 // place, and a reader of packets on a serial line. Refusals are document 01's numbers, and 0 is none; a slice is a pointer and a length. The header is host/digitmeadow.h.
 // What an answer is in numbers is in `host_numbers`.
+#![tactic(auto)]
+
 ghost use Rattle.std.specs.Prelude.{◌≡◌, [], length};
 ghost use Rattle.packet_read.specs.Reading.{read_of};
 ghost use Rattle.receiver_state.specs.Start.{start_of};

@@ -1,5 +1,7 @@
 // What the calls of the receiving half give a host in C, which knows numbers and no enum: each answer in numbers, and a start, an
 // acknowledgement and why on a state by value. A refusal is document 01's number, and 0 is none. The exported calls are in `host_library`.
+#![tactic(auto)]
+
 ghost use Rattle.std.specs.Prelude.{◌≡◌, [], length};
 ghost use Rattle.terms.specs.Answers.{refusal, values, said, said_of};
 ghost use Rattle.receiver_state.specs.Start.{start_of};

@@ -1,4 +1,6 @@
 // What feeding a serial line's reader gives a host in C, which knows numbers and no enum. The exported calls are in `host_library`.
+#![tactic(auto)]
+
 ghost use Rattle.std.specs.Prelude.{◌≡◌};
 ghost use Rattle.serial_feed.specs.Feed.{heard_said, feed_of};
 ghost use Rattle.host_serial.specs.Line.{line_heard, hosted_feed, host_fed};

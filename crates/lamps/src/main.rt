@@ -1,4 +1,6 @@
 // The story of the lamps: an image is cut into packets, which come out of order, with repeats and gaps, and a lamp takes it in order.
+#![tactic(auto)]
+
 mod image;
 mod lamp;
 mod sender;

@@ -1,4 +1,6 @@
 // Signature and key lengths by signing type: document 02's fixed list, one constant table each. A type that is not listed has no length.
+#![tactic(auto)]
+
 ghost use Rattle.std.specs.Prelude.{◌≡◌, ◌≤◌};
 ghost use Rattle.packet_keys.specs.Kinds.{signature_length, key_length};
 

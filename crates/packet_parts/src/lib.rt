@@ -1,5 +1,7 @@
 // The parts of a packet: NACKs, destination, signature and payload, each as the bytes of the packet itself, where `packet_read::read` says that they
 // stand.
+#![tactic(auto)]
+
 ghost use Rattle.std.specs.Prelude.{◌≡◌, ◌+◌, ◌≤◌, length};
 ghost use Rattle.packet_read.specs.Reading.{fields_of, spanned, payload_of, nacks_of, destination_of, signature_of};
 

@@ -1,6 +1,8 @@
 // Reading I2P streaming packets: any bytes are answered, with every field or with the refusal that document 01 gives.
 // Ports `Packet::parse` and `Flags::new` of emissary. The packet stays the caller's: the record holds where each part stands,
 // and the parts themselves are returned as parts of the packet by the calls of `packet_parts`.
+#![tactic(auto)]
+
 mod area;
 pub mod flags;
 

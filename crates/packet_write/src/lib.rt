@@ -3,6 +3,8 @@
 //
 // There is no panic for a signature flag, and no signing here. A host that signs calls `write` with zeros in the signature's
 // place, signs the bytes written, and calls `write` again with the signature: nothing else changes, since no length does.
+#![tactic(auto)]
+
 mod judge;
 mod put;
 

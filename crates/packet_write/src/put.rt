@@ -13,7 +13,7 @@ use terms::{SeqNo, StreamId};
 // The two stream ids.
 fn ids(rest: &mut [u8], send: StreamId, recv: StreamId)
     requires { 8 ≤ length rest.old }
-    ensures { rest.new ≡ (bytes_of 4 send.0 ++ bytes_of 4 recv.0) at_front_of (λ x. x.now) rest.entry }
+    ensures { rest.new ≡ (bytes_of 4 send.0 ++ bytes_of 4 recv.0) at_front_of rest.old }
 {
     let both = [send.0, recv.0];
     wire::put_numbers(rest, &both);
@@ -22,7 +22,7 @@ fn ids(rest: &mut [u8], send: StreamId, recv: StreamId)
 // The sequence number and ack-through.
 fn numbers(rest: &mut [u8], seq: SeqNo, ack: SeqNo)
     requires { 8 ≤ length rest.old }
-    ensures { rest.new ≡ (bytes_of 4 seq.0 ++ bytes_of 4 ack.0) at_front_of (λ x. x.now) rest.entry }
+    ensures { rest.new ≡ (bytes_of 4 seq.0 ++ bytes_of 4 ack.0) at_front_of rest.old }
 {
     let both = [seq.0, ack.0];
     wire::put_numbers(rest, &both);
@@ -31,7 +31,7 @@ fn numbers(rest: &mut [u8], seq: SeqNo, ack: SeqNo)
 // How many NACKs there are, and the NACKs.
 fn counted(rest: &mut [u8], nacks: &[u32])
     requires { (length nacks.now ≤ 255) × (1 + 4 * length nacks.now ≤ length rest.old) }
-    ensures { rest.new ≡ (bytes_of 1 (length nacks.now) ++ bytes_of_each 4 nacks.now) at_front_of (λ x. x.now) rest.entry }
+    ensures { rest.new ≡ (bytes_of 1 (length nacks.now) ++ bytes_of_each 4 nacks.now) at_front_of rest.old }
 {
     wire::put8(rest, nacks.len() as u8);
     wire::put_numbers(&mut rest[1..], nacks);
@@ -40,7 +40,7 @@ fn counted(rest: &mut [u8], nacks: &[u32])
 // The resend delay, the flags, and how many option bytes follow.
 fn flagged(rest: &mut [u8], resend: u8, flags: u16, options: u16)
     requires { 5 ≤ length rest.old }
-    ensures { rest.new ≡ (bytes_of 1 resend ++ bytes_of 2 flags ++ bytes_of 2 options) at_front_of (λ x. x.now) rest.entry }
+    ensures { rest.new ≡ (bytes_of 1 resend ++ bytes_of 2 flags ++ bytes_of 2 options) at_front_of rest.old }
 {
     wire::put8(rest, resend);
     wire::put16(&mut rest[1..], flags);
@@ -50,7 +50,7 @@ fn flagged(rest: &mut [u8], resend: u8, flags: u16, options: u16)
 // A number of two bytes where its option is there.
 fn put16_if(rest: &mut [u8], there: bool, x: u16)
     requires { there ≡ true → 2 ≤ length rest.old }
-    ensures { rest.new ≡ if_there there x at_front_of (λ x. x.now) rest.entry }
+    ensures { rest.new ≡ if_there there x at_front_of rest.old }
 {
     if there {
         wire::put16(rest, x);
@@ -60,7 +60,7 @@ fn put16_if(rest: &mut [u8], there: bool, x: u16)
 // The packet up to its options.
 fn head(rest: &mut [u8], f: Fields, nacks: &[u32], options: u16)
     requires { (length nacks.now ≤ 255) × (22 + 4 * length nacks.now ≤ length rest.old) }
-    ensures { rest.new ≡ joined (head_parts f nacks.now options) at_front_of (λ x. x.now) rest.entry }
+    ensures { rest.new ≡ joined (head_parts f nacks.now options) at_front_of rest.old }
 {
     let flags_at = 17 + 4 * nacks.len();
     let send = f.send_stream_id;
@@ -76,7 +76,7 @@ fn head(rest: &mut [u8], f: Fields, nacks: &[u32], options: u16)
 // The options.
 fn options(rest: &mut [u8], flags: u16, delay: u16, size: u16, destination: &[u8], signature: &[u8])
     requires { (2 when bit 6 flags else 0) + length destination.now + (2 when bit 7 flags else 0) + length signature.now ≤ length rest.old }
-    ensures { rest.new ≡ (if_there (bit 6 flags) delay ++ destination.now ++ if_there (bit 7 flags) size ++ signature.now) at_front_of (λ x. x.now) rest.entry }
+    ensures { rest.new ≡ (if_there (bit 6 flags) delay ++ destination.now ++ if_there (bit 7 flags) size ++ signature.now) at_front_of rest.old }
 {
     let delayed = flags::has(flags, flags::DELAY);
     let sized = flags::has(flags, flags::MAX_SIZE);
@@ -99,7 +99,7 @@ pub(super) fn packet(
     output: &mut [u8],
 )
     requires { Fitting f nacks.now destination.now signature.now payload.now (length output.old) }
-    ensures { output.new ≡ packet_bytes f nacks.now destination.now signature.now payload.now at_front_of (λ x. x.now) output.entry }
+    ensures { output.new ≡ packet_bytes f nacks.now destination.now signature.now payload.now at_front_of output.old }
 {
     let size = judge::before_signature(f.flags, destination.len()) + signature.len();
     head(output, f, nacks, size as u16);

@@ -1,6 +1,8 @@
 // What a receiver tells the other side of a stream: which numbers it has, and which it misses.
 // Ports the ack fields that `packetize` and the plain ack of `poll` take from `InboundContext`, mended: where more than 255 numbers
 // are missing, ack-through stands before the first that no NACK names, so that missing data never counts as received.
+#![tactic(auto)]
+
 ghost use Rattle.std.specs.Prelude.{◌≡◌, ◌+◌, ◌≤◌, [], ◌∷◌, ltb, length};
 ghost use Rattle.terms.specs.Ladder.{◌when◌else◌};
 ghost use Rattle.terms.specs.Lists.{◌at_front_of◌};
@@ -42,7 +44,7 @@ pub enum Acknowledged {
 fn list_missing(next: SeqNo, highest: SeqNo, marks: &[u16], missing: &mut [u32; 512]) -> usize
     requires { (length marks.now ≡ 512) × (length missing.old ≡ 512) × (highest.0 ≤ next.0 + 511) × (highest.0 ≤ 4294967294) }
     ensures value { result ≡ length (missing_from next.0 highest.0 marks.now) }
-    ensures missing_after { missing.new ≡ missing_from next.0 highest.0 marks.now at_front_of (λ x. x.now) missing.entry }
+    ensures missing_after { missing.new ≡ missing_from next.0 highest.0 marks.now at_front_of missing.old }
 {
     let mut count = 0;
     let mut number = next.0;
@@ -64,7 +66,7 @@ fn list_missing(next: SeqNo, highest: SeqNo, marks: &[u16], missing: &mut [u32; 
 pub fn fields(next: SeqNo, highest: SeqNo, marks: &[u16], missing: &mut [u32; 512]) -> AckFields
     requires { (length marks.now ≡ 512) × (length missing.old ≡ 512) × (highest.0 ≤ next.0 + 511) × (highest.0 ≤ 4294967294) }
     ensures value { result ≡ fields_from next.0 highest.0 marks.now }
-    ensures missing_after { missing.new ≡ missing_from next.0 highest.0 marks.now at_front_of (λ x. x.now) missing.entry }
+    ensures missing_after { missing.new ≡ missing_from next.0 highest.0 marks.now at_front_of missing.old }
 {
     let count = list_missing(next, highest, marks, missing);
     if count < MAX_NACKS {
@@ -104,7 +106,7 @@ fn plain(
     requires { (length marks.now ≡ 512) × (highest.0 ≤ next.0 + 511) × (highest.0 ≤ 4294967294) }
     ensures result_value { said_ack result ≡ (refusal 7 when ltb (length output.old) (length (plain_ack next.0 highest.0 marks.now send recv))
         else values (length (plain_ack next.0 highest.0 marks.now send recv) ∷ [])) }
-    ensures output_after { output.new ≡ (plain_ack next.0 highest.0 marks.now send recv at_front_of (λ x. x.now) output.entry unless_refused said_ack result else (λ x. x.now) output.entry) }
+    ensures output_after { output.new ≡ (plain_ack next.0 highest.0 marks.now send recv at_front_of output.old unless_refused said_ack result else output.old) }
 {
     let mut missing = [0u32; 512];
     let acks = fields(next, highest, marks, &mut missing);
@@ -136,7 +138,7 @@ fn acknowledge_in(
     output: &mut [u8],
 ) -> Acknowledged
     requires { length marks.now ≡ 512 }
-    ensures { acknowledged result output.new ≡ acknowledge_of (h over (λ x. x.now) marks.entry) send recv output.old }
+    ensures { acknowledged result output.new ≡ acknowledge_of (h over marks.now) send recv output.old }
 {
     if !receiver_state::rules_hold(h, marks) {
         return Acknowledged::Refused(Refusal::StateBroken);

@@ -1,5 +1,7 @@
 // The receiving half of a stream: packets are accepted in any order, and their payloads taken in the order of their numbers.
 // Ports `InboundContext`.
+#![tactic(auto)]
+
 ghost use Rattle.std.specs.Prelude.{◌≡◌, ◌<◌, max, length};
 ghost use Rattle.terms.specs.Answers.{said, said_of};
 ghost use Rattle.receiver_state.specs.Answers.{◌over◌};
@@ -25,7 +27,7 @@ pub struct Taken {
 // What accept answers: the first refusal that applies, in document 01's order, or that it is done.
 fn judge_accept(h: Head, marks: &[u16], number: SeqNo, size: usize, store_length: usize) -> Answer
     requires { length marks.now ≡ 512 }
-    ensures { said result ≡ accept_said (h over (λ x. x.now) marks.entry) number size store_length }
+    ensures { said result ≡ accept_said (h over marks.now) number size store_length }
 {
     let n = number.0;
     let next = h.next.0;
@@ -89,7 +91,7 @@ pub fn accept_in(
 ) -> AcceptedIn
     requires { length marks.old ≡ 512 }
     ensures { accepted_over result marks.new store.new
-        ≡ accept_of (h over (λ x. x.now) marks.entry) number payload.now store.old }
+        ≡ accept_of (h over marks.now) number payload.now store.old }
 {
     let answer = judge_accept(h, &*marks, number, payload.len(), store.len());
     match answer {
@@ -133,7 +135,7 @@ pub fn accept(r: Receiver, number: SeqNo, payload: &[u8], store: &mut [u8]) -> A
 // What take answers: the first refusal that applies, in document 01's order, or how many bytes it copies.
 fn judge_take(h: Head, marks: &[u16], store_length: usize, room: usize) -> Given
     requires { length marks.now ≡ 512 }
-    ensures { said_of result ≡ take_said (h over (λ x. x.now) marks.entry) store_length room }
+    ensures { said_of result ≡ take_said (h over marks.now) store_length room }
 {
     let next = h.next.0;
     let slot = h.slot;
@@ -177,7 +179,7 @@ pub struct TakenIn {
 pub fn take_in(h: Head, marks: &mut [u16; 512], store: &[u8], output: &mut [u8]) -> TakenIn
     requires { length marks.old ≡ 512 }
     ensures { took_over result marks.new output.new
-        ≡ take_of (h over (λ x. x.now) marks.entry) store.now output.old }
+        ≡ take_of (h over marks.now) store.now output.old }
 {
     let answer = judge_take(h, &*marks, store.len(), output.len());
     match answer {

@@ -2,6 +2,8 @@
 // value promises of the state that it is given and gives back; a refused call leaves it as it was.
 // There are two forms with one promise: `accept` and `take` stand over the calls by value, and copy the state out and in; `accept_lent`
 // and `take_lent`, for hosts, lend the state's table to the body that the calls by value use, and copy nothing of it.
+#![tactic(auto)]
+
 ghost use Rattle.std.specs.Prelude.{◌≡◌};
 ghost use Rattle.receiver_calls.specs.Accept.{accept_of};
 ghost use Rattle.receiver_calls.specs.Take.{take_of};

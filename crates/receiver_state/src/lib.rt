@@ -1,5 +1,7 @@
 // The receiving half's state: a table of 512 marks beside a store that the host lends, the rules behind refusal 11, and start.
 // Ports what `InboundContext` keeps. Its `BTreeMap`, `BTreeSet` and `VecDeque` become that table.
+#![tactic(auto)]
+
 ghost use Rattle.std.specs.Prelude.{◌≡◌, ◌&&◌, ◌||◌, ◌+◌, ◌-◌, ◌≤◌, min, eqb, length};
 ghost use Rattle.terms.specs.Lists.{all, each};
 ghost use Rattle.receiver_state.specs.Slots.{is_held, mark_of, at_most, banded_of};
@@ -105,7 +107,7 @@ fn highest_held(next: SeqNo, highest: SeqNo, marks: &[u16]) -> bool
 // It runs at every call, so each mark is touched once.
 pub fn rules_hold(h: Head, marks: &[u16]) -> bool
     requires { length marks.now ≡ 512 }
-    ensures { result ≡ rules_of (h over (λ x. x.now) marks.entry) }
+    ensures { result ≡ rules_of (h over marks.now) }
 {
     let next = h.next.0;
     let highest = h.highest.0;

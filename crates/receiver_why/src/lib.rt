@@ -1,4 +1,6 @@
 // Why a piece is not delivered: of any receiver and any number, where the number stands. For support.
+#![tactic(auto)]
+
 ghost use Rattle.std.specs.Prelude.{◌≡◌, ◌+◌, ◌-◌, ◌≤◌, length};
 ghost use Rattle.receiver_state.specs.Answers.{◌over◌};
 ghost use Rattle.receiver_why.specs.Reasons.{first_missing, why_of, said_why};
@@ -48,7 +50,7 @@ fn first_missing(next: SeqNo, highest: SeqNo, marks: &[u16]) -> SeqNo
 // why, of a state that keeps the rules and a number that can be used, over the state's head and its table lent.
 fn stands(h: Head, marks: &[u16], n: SeqNo) -> Reason
     requires { length marks.now ≡ 512 }
-    ensures { said_why result ≡ why_of (h over (λ x. x.now) marks.entry) n }
+    ensures { said_why result ≡ why_of (h over marks.now) n }
 {
     let number = n.0;
     let start = h.start.0;

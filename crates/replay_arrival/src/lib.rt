@@ -1,5 +1,7 @@
 // A packet arrives at both halves of a stream: it is read; if that succeeds, the sender gets its acks unless bit 10 is set, and then in any case the receiver
 // its payload unless its number is 0. Ports the order of `on_packet`, which was cut from the source: document 02 decides it.
+#![tactic(auto)]
+
 ghost use Rattle.std.specs.Prelude.{◌≡◌, ◌+◌, ◌*◌, ◌≤◌, length, take};
 ghost use Rattle.terms.specs.Answers.{values};
 ghost use Rattle.wire.specs.BigEndian.{numbers_at};

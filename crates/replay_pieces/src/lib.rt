@@ -1,1 +1,2 @@
 // No code: a recorded night, offered to its reader piece by piece.
+#![tactic(auto)]

@@ -1,5 +1,7 @@
 // Reading a recorded night piece by piece: the reader is given the file in portions of any length, keeps the data of an unfinished record in a buffer that
 // the host lends, and answers each record once. The Rust has nothing of it.
+#![tactic(auto)]
+
 ghost use Rattle.std.specs.Prelude.{◌≡◌, true, ◌≤◌, ◌<◌, ◌+◌, ◌*◌, length, take, drop};
 ghost use Rattle.terms.specs.Answers.{said};
 ghost use Rattle.portions.specs.Fold.{quiet};

@@ -1,5 +1,7 @@
 // acks: packets that arrived leave flight, and their samples the timing and the window. Ports `handle_acks`: an explicit step with the
 // clock as an input.
+#![tactic(auto)]
+
 mod acking;
 mod table;
 

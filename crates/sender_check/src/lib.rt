@@ -1,4 +1,6 @@
 // Whether a sender's state keeps document 01's rules: what stands behind refusal 11, and what each call asks first.
+#![tactic(auto)]
+
 ghost use Rattle.std.specs.Prelude.{◌≡◌, true, ◌≤◌, ◌<◌, length};
 ghost use Rattle.timer.specs.Timer.{timing_fits};
 ghost use Rattle.sender_state.specs.Places.{state_of};
@@ -107,7 +109,7 @@ fn places_hold<'a>(
     marks: &'a [u32],
 ) -> bool
     requires { (length numbers.now ≡ 192) × (length lengths.now ≡ 192) × (length sent.now ≡ 192) × (length resent.now ≡ 192) × (length marks.now ≡ 192) }
-    ensures { result ≡ every 192 (holds_at limits (record { numbers = numbers.entry.now; lengths = lengths.now; sent = sent.now; resent = resent.now; marks = marks.now })) }
+    ensures { result ≡ every 192 (holds_at limits (record { numbers = numbers.now; lengths = lengths.now; sent = sent.now; resent = resent.now; marks = marks.now })) }
 {
     let mut ok = true;
     let mut i = 0;
@@ -168,7 +170,7 @@ fn rules_hold<'a>(
 ) -> bool
     requires { (length numbers.now ≡ 192) × (length lengths.now ≡ 192) × (length sent.now ≡ 192) × (length resent.now ≡ 192) × (length marks.now ≡ 192) }
     ensures { result ≡ rules (state_of chunk count next.0 window timing timer clock (record {
-      numbers = numbers.entry.now;
+      numbers = numbers.now;
       lengths = lengths.now;
       sent = sent.now;
       resent = resent.now;

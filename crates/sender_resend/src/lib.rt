@@ -1,4 +1,6 @@
 // resend: packets that are too old are stamped anew. Ports `resend`: an explicit step with the clock and the path as inputs.
+#![tactic(auto)]
+
 mod again;
 
 ghost use Rattle.std.specs.Prelude.{◌≡◌};

@@ -1,5 +1,7 @@
 // Packets leave: send moves the lowest waiting one in flight and gives its bytes, fetch gives those of one in flight again. Ports the
 // sending loop of `poll`: explicit steps with the clock as an input.
+#![tactic(auto)]
+
 mod going;
 mod table;
 

@@ -31,7 +31,7 @@ pub(super) fn ranked<'a>(
 // Copies the packet of a place to the output's front.
 pub(super) fn put_packet(chunk: u32, at: usize, size: usize, store: &[u8], output: &mut [u8])
     requires { (offset_of chunk at + size ≤ length store.now) × (size ≤ length output.old) }
-    ensures { output.new ≡ bytes_at chunk at size store.now at_front_of (λ x. x.now) output.entry }
+    ensures { output.new ≡ bytes_at chunk at size store.now at_front_of output.old }
 {
     let from = at * (chunk as usize + 1044);
     let end = from + size;

@@ -1,5 +1,7 @@
 // The sending half's state: 192 places for packets beside a store that the host lends, the searches in its table, and start.
 // Ports what `Stream` keeps for sending. Its two `BTreeMap`s, of pending and of unacked packets, become one table.
+#![tactic(auto)]
+
 ghost use Rattle.std.specs.Prelude.{◌≡◌, min, eqb, length};
 ghost use Rattle.terms.specs.Lists.{all};
 ghost use Rattle.sender_state.specs.Table.{one_if, count_of, place_of, differs};

@@ -1,5 +1,7 @@
 // Submitting bytes to a sender: they become packets that wait. Ports `packetize`: chunks of the state's chunk size, numbered in order,
 // each with the ack fields of the stream's receiving half.
+#![tactic(auto)]
+
 ghost use Rattle.std.specs.Prelude.{◌≡◌, true, ◌+◌, ◌≤◌, min, length};
 ghost use Rattle.receiver_state.specs.Rules.{rules_of};
 ghost use Rattle.sender_state.specs.Numbers.{offset_of};

@@ -1,4 +1,6 @@
 // What submit answers, before anything is written: it looks at both states and at two lengths. The packets are made in `sender_submit`.
+#![tactic(auto)]
+
 ghost use Rattle.std.specs.Prelude.{◌≡◌, ◌&&◌, ◌||◌, ◌≤◌, eqb, ltb};
 ghost use Rattle.receiver_state.specs.Rules.{rules_of, slot_fits};
 ghost use Rattle.sender_state.specs.Rules.{rules, sizes_fit};

@@ -1,5 +1,7 @@
 // Reads a line of packets, each behind its length, from standard input, in portions as odd as a serial line gives, and tells each packet's fields. It ends with the
 // input, or with a length that is refused.
+#![tactic(auto)]
+
 mod tell;
 
 use libc::STDIN_FILENO;

@@ -1,5 +1,7 @@
 // Packets over a serial line: a reader is fed portions as the line gives them, keeps the unfinished packet in a buffer that the host lends, and answers each
 // full packet once.
+#![tactic(auto)]
+
 ghost use Rattle.std.specs.Prelude.{◌≡◌, true, ◌≤◌, ◌<◌, length, take, drop};
 ghost use Rattle.portions.specs.Stops.{until_given, used_before};
 ghost use Rattle.serial_state.specs.Frames.{Coming, within, after_length, read_byte};

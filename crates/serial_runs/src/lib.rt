@@ -1,1 +1,2 @@
 // No code: what holds of any calls of a serial line's reader.
+#![tactic(auto)]

@@ -1,5 +1,7 @@
 // A reader of packets on a serial line, each behind its length: its state, the rules behind refusal 11, and start. Older gateways hand packets over such a
 // line; the Rust has nothing of it.
+#![tactic(auto)]
+
 ghost use Rattle.std.specs.Prelude.{◌≡◌, length};
 ghost use Rattle.serial_state.specs.Rules.{line_rules};
 ghost use Rattle.serial_state.specs.Start.{line_start};

@@ -1,5 +1,7 @@
 // The words of document 01 that every layer above uses: the two kinds of number that are never mixed up, the refusals, and the
 // answers that calls of both halves give.
+#![tactic(auto)]
+
 ghost use Rattle.std.specs.Prelude.{◌≡◌};
 ghost use Rattle.terms.specs.Refusals.{number_of};
 

@@ -1,4 +1,6 @@
 // Round-trip time, timeout and window: document 01's timer, RFC 6298 in whole milliseconds without its granularity term.
+#![tactic(auto)]
+
 ghost use Rattle.std.specs.Prelude.{◌≡◌};
 ghost use Rattle.timer.specs.Timer.{∣◌−◌∣, smoothed_of, deviation_of, sampled_of, held_of, rto_of};
 ghost use Rattle.timer.specs.Window.{grown_of, fallen_of};

@@ -1,5 +1,7 @@
 // The smoothed time as the Rust has it: 0.875 of the old and 0.125 of the sample in f64, cut to whole milliseconds. A second engine beside `timer`'s, which goes in
 // whole numbers; they agree on every pair of times up to 4,294,967,295 (proofs/Agree). Ports the expression of `Rtt::calculate_rtt`.
+#![tactic(auto)]
+
 ghost use Rattle.std.specs.Prelude.{◌≡◌, ◌<◌};
 ghost use Rattle.timer.specs.Timer.{smoothed_of};
 ghost use Rattle.timer_float.specs.Float.{float_of, smoothed_said, smooth_said};

@@ -1,5 +1,7 @@
 // Numbers as the wire has them, big-endian: read at a place of a slice, written to the front of a lent rest.
 // These are the layer below the calls that a host makes: each asks that the bytes are there, and its callers show it.
+#![tactic(auto)]
+
 ghost use Rattle.std.specs.Prelude.{◌≡◌, ◌+◌, ◌*◌, ◌≤◌, ◌<◌, length};
 ghost use Rattle.terms.specs.Lists.{◌at_front_of◌};
 ghost use Rattle.wire.specs.BigEndian.{number_at, bytes_of, bytes_of_each};
@@ -46,7 +48,7 @@ pub fn be32(s: &[u8], at: usize) -> u32
 // Writes x as one byte.
 pub fn put8(rest: &mut [u8], x: u8)
     requires { 1 ≤ length rest.old }
-    ensures { rest.new ≡ bytes_of 1 x at_front_of (λ x. x.now) rest.entry }
+    ensures { rest.new ≡ bytes_of 1 x at_front_of rest.old }
 {
     rest[0] = x;
 }
@@ -54,7 +56,7 @@ pub fn put8(rest: &mut [u8], x: u8)
 // Writes x as two bytes.
 pub fn put16(rest: &mut [u8], x: u16)
     requires { 2 ≤ length rest.old }
-    ensures { rest.new ≡ bytes_of 2 x at_front_of (λ x. x.now) rest.entry }
+    ensures { rest.new ≡ bytes_of 2 x at_front_of rest.old }
 {
     rest[0] = (x / 256 % 256) as u8;
     rest[1] = (x % 256) as u8;
@@ -63,7 +65,7 @@ pub fn put16(rest: &mut [u8], x: u16)
 // Writes x as four bytes.
 fn put32(rest: &mut [u8], x: u32)
     requires { 4 ≤ length rest.old }
-    ensures { rest.new ≡ bytes_of 4 x at_front_of (λ x. x.now) rest.entry }
+    ensures { rest.new ≡ bytes_of 4 x at_front_of rest.old }
 {
     rest[0] = (x / 16777216 % 256) as u8;
     rest[1] = (x / 65536 % 256) as u8;
@@ -74,7 +76,7 @@ fn put32(rest: &mut [u8], x: u32)
 // Copies all of src.
 pub fn put_bytes(rest: &mut [u8], src: &[u8])
     requires { length src.now ≤ length rest.old }
-    ensures { rest.new ≡ src.now at_front_of (λ x. x.now) rest.entry }
+    ensures { rest.new ≡ src.now at_front_of rest.old }
 {
     let mut j = 0;
     while j < src.len() {
@@ -86,7 +88,7 @@ pub fn put_bytes(rest: &mut [u8], src: &[u8])
 // Writes numbers of four bytes, one behind the other.
 pub fn put_numbers(rest: &mut [u8], xs: &[u32])
     requires { 4 * length xs.now ≤ length rest.old }
-    ensures { rest.new ≡ bytes_of_each 4 xs.now at_front_of (λ x. x.now) rest.entry }
+    ensures { rest.new ≡ bytes_of_each 4 xs.now at_front_of rest.old }
 {
     let mut at = 0;
     let mut j = 0;
