@@ -3,7 +3,7 @@
 ghost use Rattle.std.specs.Prelude.{◌≡◌, ◌≤◌, eqb, length};
 ghost use Rattle.program_script.specs.Numbers.{number_in};
 
-use libc::STDIN_FILENO;
+use program_lines::say::STDIN_FILENO;
 use program_script::registers::{Bank, SPOILED};
 
 // The next letter, and a number that is none where the script is at its end.

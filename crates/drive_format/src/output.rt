@@ -1,5 +1,5 @@
 // A line of an answer: it is put together in a page and then written to standard output. What puts something at a place answers the place behind it.
-use libc::STDOUT_FILENO;
+use program_lines::say::STDOUT_FILENO;
 use program_lines::{part, say};
 use program_script::registers;
 use program_script::registers::Bank;

@@ -18,7 +18,7 @@ use terms::{Answer, Given, SeqNo, StreamId};
 
 // A refusal's number, or 0 and how many bytes were copied or written.
 #[repr(C)]
-#[derive(Drop)]
+#[derive(Clone, Copy)]
 pub struct Counted {
     pub refusal: u32,
     pub count: usize,
@@ -26,7 +26,7 @@ pub struct Counted {
 
 // Where a number stands in a receiver: a refusal's number, or 0 and one of the eight cases of `receiver_why`, 1 to 8; the smallest missing number where it is 5, else 0.
 #[repr(C)]
-#[derive(Drop)]
+#[derive(Clone, Copy)]
 pub struct Stand {
     pub refusal: u32,
     pub reason: u32,
@@ -35,7 +35,7 @@ pub struct Stand {
 
 // Where a part of a packet stands.
 #[repr(C)]
-#[derive(Drop)]
+#[derive(Clone, Copy)]
 pub struct Part {
     pub at: usize,
     pub len: usize,
@@ -43,7 +43,7 @@ pub struct Part {
 
 // A packet as it is read. Where the read is refused, every other number is 0 and every part is empty.
 #[repr(C)]
-#[derive(Drop)]
+#[derive(Clone, Copy)]
 pub struct Fields {
     pub refusal: u32,
     pub send_stream_id: StreamId,
@@ -166,7 +166,7 @@ pub fn of_refusal(number: u32) -> Fields
 }
 
 // A start, in numbers.
-#[derive(Drop)]
+#[derive(Clone, Copy)]
 pub struct Begun {
     pub refusal: u32,
     pub state: Receiver,

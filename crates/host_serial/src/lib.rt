@@ -11,7 +11,7 @@ use serial_state::LineReader;
 // The reader after the call; a refusal's number, or 0; the length of the packet at the buffer's front, 0 where more is wanted; and how many bytes of the
 // portion were used.
 #[repr(C)]
-#[derive(Drop)]
+#[derive(Clone, Copy)]
 pub struct LineHeard {
     pub reader: LineReader,
     pub refusal: u32,

@@ -12,7 +12,7 @@ use terms::{Answer, Given, SeqNo, StreamId};
 // 512 slots of 128 bytes.
 pub type Store = [u8; 65536];
 
-#[derive(Drop)]
+#[derive(Clone, Copy)]
 pub struct Lamp {
     pub receiver: Receiver,
     // how many bytes of its image it has
@@ -20,7 +20,7 @@ pub struct Lamp {
 }
 
 // What a take leaves, and whether it took.
-#[derive(Drop)]
+#[derive(Clone, Copy)]
 struct Step {
     took: bool,
     lamp: Lamp,

@@ -8,7 +8,7 @@ use mathlib.Core.List.{List, [], ◌∷◌}
 use lib.Dec.{T, leb, ltb, eqb, eqb→eq, leb→le, ltb→lt, nltb→le}
 use lib.ListN.{get_or}
 use borrow.Author.Tests.{ne_eqb}
-use Rattle.packet_keys.specs.Kinds.{Kind, kinds, looked_up, signature_length, key_length, is_listed, Bounded, Listed}
+use Rattle.packet_keys.specs.Kinds.{Kind, kinds, looked_up, signature_length, key_length, Bounded, Listed}
 use Rattle.packet_keys.proofs.Table.{both, both_left, both_right, at}
 
 -- the code's tables
@@ -22,9 +22,9 @@ right_signature : ℕ → ℕ → Bool
 unfolding signature_length
 right_signature k x = eqb x (signature_length k)
 
-pub signature_begins : (k : ℕ) → k < 12 → get_or signatures k 0 ≡ signature_length k
+pub signature_at : (k : ℕ) → k < 12 → get_or signatures k 0 ≡ signature_length k
 unfolding right_signature signature_length
-signature_begins k h = eqb→eq (get_or signatures k 0) (signature_length k) (at right_signature signatures tt k h)
+signature_at k h = eqb→eq (get_or signatures k 0) (signature_length k) (at right_signature signatures tt k h)
 
 right_key : ℕ → ℕ → Bool
 unfolding key_length
@@ -73,10 +73,14 @@ read k x t =
         → (T (not (eqb x 0)) → T (not z)) → Fair k x
     go true true true c d t p q r s n = record { most = p tt; key_most = q tt; least = λ l. absurd (n l) }
     go true true false true true t p q r s n = record { most = p tt; key_most = q tt; least = λ l. (r tt, s tt) }
+    go false b z c d t p q r s n = elim t [ ]
+    go true false z c d t p q r s n = elim t [ ]
+    go true true false false d t p q r s n = elim t [ ]
+    go true true false true false t p q r s n = elim t [ ]
 
 fair_at : (k : ℕ) → k < 12 → Fair k (signature_length k)
 unfolding fair key_length
-fair_at k h = subst (Fair k) (signature_begins k h) (read k (get_or signatures k 0) (at fair signatures tt k h))
+fair_at k h = subst (Fair k) (signature_at k h) (read k (get_or signatures k 0) (at fair signatures tt k h))
 
 module _ (k : ℕ) where
   -- by whether the type has a place in the tables

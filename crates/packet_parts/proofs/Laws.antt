@@ -11,7 +11,7 @@ use Rattle.terms.specs.Answers.{Saying, refusal, values}
 use Rattle.terms.proofs.Laws.{rung}
 use Rattle.packet_read.specs.Going.{◌and_then◌}
 use Rattle.packet_read.specs.Flags.{bit}
-use Rattle.packet_read.specs.Options.{destination_at, signature_at, destination_there, signature_size, after_destination, options_in}
+use Rattle.packet_read.specs.Options.{destination_begins, signature_at, destination_there, signature_size, after_destination, options_in}
 use Rattle.packet_read.specs.Reading.{no_fields, fields_in, fields_of, flags_of, options_at, options_end, with_options, read_of, spanned}
 use Rattle.packet_read.specs.Destination.{Whole}
 use Rattle.packet_read.specs.declared.Found.{Found}
@@ -38,7 +38,7 @@ none : (p : List ℕ) (n : ℕ) → LaidOptions p (refusal n)
 none p n = record { laid = empty p }
 
 module _ (p : List ℕ) (fits : options_end p ≤ length p) where
-  after : (d : Whole) → destination_at (options_at p) (flags_of p) + d.size ≤ options_end p → LaidOptions p (after_destination p (options_at p) (options_end p) (flags_of p) d)
+  after : (d : Whole) → destination_begins (options_at p) (flags_of p) + d.size ≤ options_end p → LaidOptions p (after_destination p (options_at p) (options_end p) (flags_of p) d)
   unfolding after_destination
   after d h =
       let place = signature_at (options_at p) (flags_of p) d.size in
@@ -50,15 +50,15 @@ module _ (p : List ℕ) (fits : options_end p ≤ length p) where
       let i = ltb-false (options_end p) (place + size) e in
       record { laid = record { nacks_first = omega arith; then_destination = omega arith; then_signature = omega (arith, i); then_payload = omega (arith, fits) } }
 
-  followed : (w : Saying Whole) → w ≡ destination_there p (options_at p) (options_end p) (flags_of p) → destination_at (options_at p) (flags_of p) ≤ options_end p
+  followed : (w : Saying Whole) → w ≡ destination_there p (options_at p) (options_end p) (flags_of p) → destination_begins (options_at p) (flags_of p) ≤ options_end p
       → LaidOptions p (w and_then after_destination p (options_at p) (options_end p) (flags_of p))
   followed (refusal n) e h = none p n
-  followed (values d) e h = after d (size-inside p (destination_at (options_at p) (flags_of p)) (options_end p) d (bit 5 (flags_of p)) h (sym e))
+  followed (values d) e h = after d (size-inside p (destination_begins (options_at p) (flags_of p)) (options_end p) d (bit 5 (flags_of p)) h (sym e))
 
   optioned : LaidOptions p (options_in p (options_at p) (options_end p) (flags_of p))
   unfolding options_in
   optioned =
-      rung (LaidOptions p) (ltb (options_end p) (destination_at (options_at p) (flags_of p))) (λ _. none p _) λ e.
+      rung (LaidOptions p) (ltb (options_end p) (destination_begins (options_at p) (flags_of p))) (λ _. none p _) λ e.
       followed (destination_there p (options_at p) (options_end p) (flags_of p)) refl (ltb-false _ _ e)
 
 said_laid : (p : List ℕ) → LaidSaid p (read_of p)

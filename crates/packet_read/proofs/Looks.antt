@@ -18,7 +18,7 @@ use Rattle.packet_read.specs.Going.{◌and_then◌}
 use Rattle.packet_read.specs.Flags.{bit}
 use Rattle.packet_keys.specs.Kinds.{signature_length}
 use Rattle.packet_read.specs.Destination.{certificate_type, certificate_length, key_type, signing_type, form_fits, key_fits, Whole, destination_in}
-use Rattle.packet_read.specs.Options.{destination_at, max_at, signature_at, no_destination, destination_there, signature_size, found, after_destination, options_in}
+use Rattle.packet_read.specs.Options.{destination_begins, max_at, signature_at, no_destination, destination_there, signature_size, found, after_destination, options_in}
 use Rattle.packet_read.specs.Reading.{nack_count, flags_of, options_at, options_end, fields_read, with_options, read_of, fields_in, fields_of, nacks_of, nack_numbers_of}
 use Rattle.packet_read.specs.Parts.{PartsAre}
 use Rattle.packet_read.specs.declared.Found.{Found}
@@ -63,7 +63,7 @@ module _ (p q : List ℕ) (end : ℕ) (same : (k i : ℕ) → i + k ≤ end → 
       same_rung _ (not (key_fits (signing_type p at) (certificate_length p at))) (not (key_fits (signing_type q at) (certificate_length q at))) (λ i. not (key_fits (key i) (size i))) λ _.
       λ i. values (record { size = 387 + size i; signs = signature_length (key i) })
 
-  module _ (at flags : ℕ) (delay-fits : destination_at at flags ≤ end) where
+  module _ (at flags : ℕ) (delay-fits : destination_begins at flags ≤ end) where
     after_alike : (d : Whole) → after_destination p at end flags d ≡ after_destination q at end flags d
     unfolding after_destination
     after_alike d =
@@ -84,9 +84,9 @@ module _ (p q : List ℕ) (end : ℕ) (same : (k i : ℕ) → i + k ≤ end → 
   options_alike : (at flags : ℕ) → options_in p at end flags ≡ options_in q at end flags
   unfolding options_in
   options_alike at flags =
-      same_rung _ (ltb end (destination_at at flags)) (ltb end (destination_at at flags)) refl λ a.
+      same_rung _ (ltb end (destination_begins at flags)) (ltb end (destination_begins at flags)) refl λ a.
       then_alike at flags (ltb-false _ _ a) (destination_there p at end flags)
-      ∙ ap (λ (w : Saying Whole). (w when bit 5 flags else values no_destination) and_then after_destination q at end flags) (destination_alike (destination_at at flags))
+      ∙ ap (λ (w : Saying Whole). (w when bit 5 flags else values no_destination) and_then after_destination q at end flags) (destination_alike (destination_begins at flags))
 
   fields_alike : (n flags : ℕ) (f : Found) → length p ≡ length q → 22 + 4 * n ≤ end → fields_read p n end flags f ≡ fields_read q n end flags f
   fields_alike n flags f l h =
@@ -134,7 +134,7 @@ parts_are p v h =
       nacks_are = rw (is, ← cut 17 (4 * nack_count p));
       d = r.d;
       found_there = r.held.there;
-      destination_is = rw (is, ← cut (destination_at (options_at p) (flags_of p)) r.d.size);
+      destination_is = rw (is, ← cut (destination_begins (options_at p) (flags_of p)) r.d.size);
       signature_is = rw (is, ← cut (signature_at (options_at p) (flags_of p) r.d.size) (signature_size p (options_at p) (options_end p) (flags_of p) r.d));
       payload_is = rw is (take_all (length p - options_end p) (drop (options_end p) p) (simp length-drop (omega arith)));
     }

@@ -13,14 +13,14 @@ use Rattle.terms.proofs.Laws.{past, both_false}
 use Rattle.packet_read.specs.Going.{◌and_then◌}
 use Rattle.packet_read.specs.Flags.{bit}
 use Rattle.packet_read.specs.Destination.{Whole}
-use Rattle.packet_read.specs.Options.{destination_at, signature_at, destination_there, signature_size, found, after_destination, options_in}
+use Rattle.packet_read.specs.Options.{destination_begins, signature_at, destination_there, signature_size, found, after_destination, options_in}
 use Rattle.packet_read.specs.Reading.{nack_count, flags_of, options_at, options_end, fields_read, with_options, read_of}
 use Rattle.packet_read.specs.declared.Found.{Found}
 use Rattle.packet_read.specs.declared.Packet.{Packet}
 
 -- behind the destination d, the option area from `at` to `end` holds what is flagged
 pub record Held (p : List ℕ) (at end flags : ℕ) (d : Whole) : Type 0 where
-  pub delay-fits : destination_at at flags ≤ end
+  pub delay-fits : destination_begins at flags ≤ end
   pub there : destination_there p at end flags ≡ values d
   pub max-fits : signature_at at flags d.size ≤ end
   pub online : bit 11 flags ≡ false
@@ -48,7 +48,7 @@ module _ (p : List ℕ) (at end flags : ℕ) where
     held : Held p at end flags d
     is : f ≡ found p at end flags d
 
-  after : (d : Whole) (f : Found) → destination_at at flags ≤ end → destination_there p at end flags ≡ values d → after_destination p at end flags d ≡ values f → FoundIn f
+  after : (d : Whole) (f : Found) → destination_begins at flags ≤ end → destination_there p at end flags ≡ values d → after_destination p at end flags d ≡ values f → FoundIn f
   unfolding after_destination
   after d f delay there h =
       let a = past 3 (ltb end (signature_at at flags d.size)) _ f h in
@@ -70,7 +70,7 @@ module _ (p : List ℕ) (at end flags : ℕ) where
   options_found : (f : Found) → options_in p at end flags ≡ values f → FoundIn f
   unfolding options_in
   options_found f h =
-      let a = past 3 (ltb end (destination_at at flags)) _ f h in
+      let a = past 3 (ltb end (destination_begins at flags)) _ f h in
       let g = given_on (destination_there p at end flags) (after_destination p at end flags) f a.1 in
       after g.0 f (ltb-false _ _ a.0) g.1 g.2
 

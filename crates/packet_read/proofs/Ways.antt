@@ -14,7 +14,7 @@ use Rattle.packet_read.specs.Going.{◌and_then◌}
 use Rattle.packet_read.specs.Flags.{bit}
 use Rattle.packet_keys.specs.Kinds.{signature_length}
 use Rattle.packet_read.specs.Destination.{certificate_type, certificate_length, signing_type, form_fits, key_fits, Whole, destination_in}
-use Rattle.packet_read.specs.Options.{destination_at, signature_at, no_destination, signature_size, after_destination, options_in}
+use Rattle.packet_read.specs.Options.{destination_begins, signature_at, no_destination, signature_size, after_destination, options_in}
 use Rattle.packet_read.specs.Reading.{nack_count, flags_of, options_at, options_end, fields_read, with_options, read_of}
 use Rattle.packet_read.specs.declared.Found.{Found}
 
@@ -89,7 +89,7 @@ module _ (k l s : ℕ) (e : s ≡ signature_length k) where
     pub at_least_8 : k ≡ 3 → leb 8 l ≡ key_fits k l
     at_least_8 m = rw (listed, eq-eqb k 3 m)
 
-pub signature_place : (at flags size from z : ℕ) (b : Bool) → from ≡ destination_at at flags → b ≡ bit 7 flags
+pub signature_place : (at flags size from z : ℕ) (b : Bool) → from ≡ destination_begins at flags → b ≡ bit 7 flags
     → z ≡ (2 when b else 0) → from + size + z ≡ signature_at at flags size
 signature_place at flags size from z b e f g = rw (g, f, e)
 
@@ -120,7 +120,7 @@ module _ (p : List ℕ) (at end flags : ℕ) (d : Whole) (place : ℕ) (es : pla
           let c : end < signature_at at flags d.size + signature_size p at end flags d = omega (arith, es, sized) in
           simp (inside, off, lt-ltb _ _ c)
 
-      pub all_found : z ≤ end - place → (from y m : ℕ) → from ≡ destination_at at flags → y ≡ (number_at 2 at p when bit 6 flags else 0)
+      pub all_found : z ≤ end - place → (from y m : ℕ) → from ≡ destination_begins at flags → y ≡ (number_at 2 at p when bit 6 flags else 0)
           → m ≡ (number_at 2 (from + d.size) p when bit 7 flags else 0)
           → values (record { delay = y; destination = record { at = from; len = d.size }; max_size = m; signature = record { at = place; len = z }; leftover = end - place - z })
           ≡ after_destination p at end flags d
@@ -130,16 +130,16 @@ module _ (p : List ℕ) (at end flags : ℕ) (d : Whole) (place : ℕ) (es : pla
           let l : end - place - z ≡ end - (signature_at at flags d.size + signature_size p at end flags d) = omega (arith, es, sized) in
           rw (l, sized, es, f, g, e) (sym (simp (inside, off, le-ltb _ _ c)))
 
-module _ (p : List ℕ) (at end flags from : ℕ) (e : from ≡ destination_at at flags) where
+module _ (p : List ℕ) (at end flags from : ℕ) (e : from ≡ destination_begins at flags) where
   pub cut_delay : end < from → refusal 3 ≡ options_in p at end flags
   unfolding options_in
-  cut_delay h = sym (simp (lt-ltb end (destination_at at flags) (rw e at h)))
+  cut_delay h = sym (simp (lt-ltb end (destination_begins at flags) (rw e at h)))
 
   -- past the delay, the options are what follows the destination that was found
   pub past_delay : from ≤ end → (w : Saying Whole) (b : Bool) → b ≡ bit 5 flags → w ≡ (destination_in p from end when b else values no_destination)
       → (w and_then after_destination p at end flags) ≡ options_in p at end flags
   unfolding options_in
-  past_delay h w b f g = rw (g, f, e) (sym (simp (le-ltb end (destination_at at flags) (rw e at h))))
+  past_delay h w b f g = rw (g, f, e) (sym (simp (le-ltb end (destination_begins at flags) (rw e at h))))
 
 module _ (p : List ℕ) where
   pub too_long : 65535 < length p → refusal 2 ≡ read_of p

@@ -19,12 +19,12 @@ said_options (O.Found found) = values found
 
 -- an option area that starts at `at`
 module _ (at flags : ℕ) where
-  abbrev pub destination_at : ℕ
-  destination_at = at + (2 when bit 6 flags else 0)
+  abbrev pub destination_begins : ℕ
+  destination_begins = at + (2 when bit 6 flags else 0)
 
   -- after a destination of `size` bytes
   abbrev pub max_at : ℕ → ℕ
-  max_at size = destination_at + size
+  max_at size = destination_begins + size
 
   abbrev pub signature_at : ℕ → ℕ
   signature_at size = max_at size + (2 when bit 7 flags else 0)
@@ -36,7 +36,7 @@ no_destination = record { size = 0; signs = 0 }
 module _ (p : List ℕ) (at end flags : ℕ) where
   -- the destination, or that of no byte where it is absent
   abbrev pub destination_there : Saying Whole
-  destination_there = destination_in p (destination_at at flags) end when bit 5 flags else values no_destination
+  destination_there = destination_in p (destination_begins at flags) end when bit 5 flags else values no_destination
 
   -- what follows the destination d
   module _ (d : Whole) where
@@ -47,7 +47,7 @@ module _ (p : List ℕ) (at end flags : ℕ) where
     abbrev pub found : Found
     found = record {
       delay = number_at 2 at p when bit 6 flags else 0;
-      destination = record { at = destination_at at flags; len = d.size };
+      destination = record { at = destination_begins at flags; len = d.size };
       max_size = number_at 2 (max_at at flags d.size) p when bit 7 flags else 0;
       signature = record { at = signature_at at flags d.size; len = signature_size };
       leftover = end - (signature_at at flags d.size + signature_size);
@@ -68,5 +68,5 @@ module _ (p : List ℕ) (at end flags : ℕ) where
   unfoldable pub options_in : Saying Found
   options_in =
       -- option area ends inside the delay
-      refusal 3 when ltb end (destination_at at flags) else
+      refusal 3 when ltb end (destination_begins at flags) else
       (destination_there and_then after_destination)

@@ -4,7 +4,7 @@ ghost use Rattle.terms.specs.Answers.{values};
 ghost use Rattle.terms.specs.Ladder.{◌when◌else◌};
 ghost use Rattle.wire.specs.BigEndian.{number_at};
 ghost use Rattle.packet_read.specs.Destination.{form_fits, key_fits, destination_in, said_destination};
-ghost use Rattle.packet_read.specs.Options.{said_options, destination_at, no_destination, after_destination, options_in};
+ghost use Rattle.packet_read.specs.Options.{said_options, destination_begins, no_destination, after_destination, options_in};
 
 use super::{DestinationFound, Found, Options, Span, flags};
 use terms::Refusal;
@@ -80,7 +80,7 @@ fn after_destination(
     size: usize,
     signs: usize,
 ) -> Options
-    requires { (destination_at ≡ destination_at at flags) × (destination_at + size ≤ end) × (end ≤ length packet.now) }
+    requires { (destination_at ≡ destination_begins at flags) × (destination_at + size ≤ end) × (end ≤ length packet.now) }
     ensures { said_options result ≡ after_destination packet.now at end flags (record { size = size; signs = signs }) }
 {
     let max_at = destination_at + size;

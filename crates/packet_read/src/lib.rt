@@ -13,14 +13,14 @@ ghost use Rattle.packet_read.specs.Reading.{said_reading, read_of, fields_read};
 use terms::{Refusal, SeqNo, StreamId};
 
 // Where a part of the packet stands. An absent part has no byte, and stands where it would have stood.
-#[derive(Drop)]
+#[derive(Clone, Copy)]
 pub struct Span {
     pub at: usize,
     pub len: usize,
 }
 
 // Every field of a packet, in wire order; options that are absent are 0 or empty.
-#[derive(Drop)]
+#[derive(Clone, Copy)]
 pub struct Packet {
     pub send_stream_id: StreamId,
     pub recv_stream_id: StreamId,
@@ -39,21 +39,21 @@ pub struct Packet {
 }
 
 // The answer of `read`.
-#[derive(Drop)]
+#[derive(Clone, Copy)]
 pub enum Reading {
     Read(Packet),
     Refused(Refusal),
 }
 
 // A destination at the front of the option bytes that remain: its length and that of its signatures, or the refusal.
-#[derive(Drop)]
+#[derive(Clone, Copy)]
 pub enum DestinationFound {
     Whole(usize, usize),
     Refused(Refusal),
 }
 
 // What the option area holds.
-#[derive(Drop)]
+#[derive(Clone, Copy)]
 pub struct Found {
     pub delay: u16,
     pub destination: Span,
@@ -62,7 +62,7 @@ pub struct Found {
     pub leftover: usize,
 }
 
-#[derive(Drop)]
+#[derive(Clone, Copy)]
 pub enum Options {
     Found(Found),
     Refused(Refusal),

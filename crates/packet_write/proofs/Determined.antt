@@ -17,7 +17,7 @@ writing_one (W.Refused q) (W.Refused r) e = ap W.Refused (number-one q r (cc))
 writing_one (W.Refused q) (W.Written m j) e = let z : ◌≡◌ {A = ℕ} 0 1 = cc in absurd (omega arith)
 writing_one (W.Written n i) (W.Refused r) e = let z : ◌≡◌ {A = ℕ} 0 1 = cc in absurd (omega arith)
 writing_one (W.Written n i) (W.Written m j) e =
-    let w : ◌≡◌ {A = Written} (record { length-is = n; signature_begins = i }) (record { length-is = m; signature_begins = j }) = cc in
+    let w : ◌≡◌ {A = Written} (record { length-is = n; signature_at = i }) (record { length-is = m; signature_at = j }) = cc in
     let l : n ≡ m = ap (λ (x : Written). x.length-is) w in
     let p : i ≡ j = ap (λ (x : Written). x.signature_at) w in
     cc

@@ -1,9 +1,8 @@
 -- What holds where a packet is written: it passed every rung. Assumes nothing.
 use Prim.Native.Nat.{ℕ}
-use mathlib.Core.Path.{◌≡◌, sym}
+use mathlib.Core.Path.{◌≡◌}
 use mathlib.Core.Bool.{false, ◌&&◌, not}
 use mathlib.Core.List.{List}
-use native.Mathlib.Omega.{arith}
 use borrow.Author.Tests.{ltb-false}
 use lib.Dec.{ltb, eqb}
 use lib.ListN.{length}
@@ -22,7 +21,7 @@ pub record Passed (f : Fields) (nacks destination signature payload : List ℕ) 
   pub fit : parts_unfit f destination signature ≡ false
   pub form : (bit 5 f.flags && not (is_destination destination)) ≡ false
   pub signed : (bit 3 f.flags && (bit 5 f.flags && not (eqb (length signature) (signs_of destination)))) ≡ false
-  pub is : w ≡ record { length-is = packet_length f nacks destination signature payload; signature_begins = signed_at f nacks destination when bit 3 f.flags else 0 }
+  pub is : w ≡ record { length-is = packet_length f nacks destination signature payload; signature_at = signed_at f nacks destination when bit 3 f.flags else 0 }
 
 pub passed : (f : Fields) (nacks destination signature payload : List ℕ) (room : ℕ) (w : Written)
     → write_of f nacks destination signature payload room ≡ values w → Passed f nacks destination signature payload room w

@@ -19,12 +19,12 @@ use Rattle.wire.proofs.Laws.{length-bytes, length-each}
 use Rattle.wire.proofs.RoundTrip.{past, part_here, number_here, fits, each-numbers}
 use Rattle.packet_read.specs.Flags.{bit}
 use Rattle.packet_read.specs.Destination.{Whole, destination_in, signs_of, is_destination}
-use Rattle.packet_read.specs.Options.{destination_at, no_destination, options_in}
+use Rattle.packet_read.specs.Options.{destination_begins, no_destination, options_in}
 use Rattle.packet_read.specs.Reading.{nack_count, fields_read, nacks_of}
 use Rattle.packet_read.specs.declared.Found.{Found}
 use Rattle.packet_read.proofs.Moved.{destination_found}
 use Rattle.packet_read.proofs.Ways.{all_found, past_delay, past_options, fields_are}
-use Rattle.packet_write.specs.Writing.{Written, unfit, parts_unfit, signed_at, packet_length, head_parts, if_there, option_parts, packet_bytes, write_of}
+use Rattle.packet_write.specs.Writing.{Written, unfit, parts_unfit, signed_at, head_parts, if_there, option_parts, packet_bytes, write_of}
 use Rattle.packet_write.specs.RoundTrip.{Ranged, given, ReadBack, OutputBack}
 use Rattle.packet_write.specs.declared.Fields.{Fields}
 use Rattle.packet_write.proofs.Joins.{behind, options_length, packet-behind, length-packet, length_options}
@@ -123,15 +123,15 @@ head_back f nacks options r p ranged few small is =
 -- the options that begin at `at`, and the payload behind them
 record Tail (f : Fields) (destination signature payload : List ℕ) (at : ℕ) (p : List ℕ) : Type 0 where
   delay-is : (number_at 2 at p when bit 6 f.flags else 0) ≡ f.delay
-  destination_here : drop (destination_at at f.flags) p ≡ destination ++ (if_there (bit 7 f.flags) f.max_size ++ (signature ++ payload))
-  max-is : (number_at 2 (destination_at at f.flags + length destination) p when bit 7 f.flags else 0) ≡ f.max_size
-  signature_here : drop (destination_at at f.flags + length destination + (2 when bit 7 f.flags else 0)) p ≡ signature ++ payload
-  payload_here : drop (destination_at at f.flags + length destination + (2 when bit 7 f.flags else 0) + length signature) p ≡ payload
+  destination_here : drop (destination_begins at f.flags) p ≡ destination ++ (if_there (bit 7 f.flags) f.max_size ++ (signature ++ payload))
+  max-is : (number_at 2 (destination_begins at f.flags + length destination) p when bit 7 f.flags else 0) ≡ f.max_size
+  signature_here : drop (destination_begins at f.flags + length destination + (2 when bit 7 f.flags else 0)) p ≡ signature ++ payload
+  payload_here : drop (destination_begins at f.flags + length destination + (2 when bit 7 f.flags else 0) + length signature) p ≡ payload
 
 tail_back : (f : Fields) (destination signature payload : List ℕ) (at : ℕ) (p : List ℕ) → Ranged f → Clear f destination signature
     → drop at p ≡ behind (option_parts f destination signature) payload → Tail f destination signature payload at p
 tail_back f destination signature payload at p ranged none is =
-    let from = destination_at at f.flags in
+    let from = destination_begins at f.flags in
     let max-at = from + length destination in
     let place = max-at + (2 when bit 7 f.flags else 0) in
     let rest = signature ++ payload in
@@ -150,7 +150,7 @@ tail_back f destination signature payload at p ranged none is =
 abbrev found_back : Fields → List ℕ → List ℕ → List ℕ → Found
 found_back f nacks destination signature = record {
   delay = f.delay;
-  destination = record { at = destination_at (22 + 4 * length nacks) f.flags; len = length destination };
+  destination = record { at = destination_begins (22 + 4 * length nacks) f.flags; len = length destination };
   max_size = f.max_size;
   signature = record { at = signed_at f nacks destination; len = length signature };
   leftover = 0;
@@ -166,7 +166,7 @@ module _ (f : Fields) (nacks destination signature payload p : List ℕ) (head :
       let at = 22 + 4 * length nacks in
       let o = options_length f destination signature in
       let end = at + o in
-      let from = destination_at at f.flags in
+      let from = destination_begins at f.flags in
       let place = signed_at f nacks destination in
       let long = length_options f destination signature in
       let whole : Whole = record { size = length destination; signs = signs_of destination when bit 5 f.flags else 0 } in
@@ -221,7 +221,7 @@ reads_back f nacks destination signature payload room w ranged fit h =
       nacks_back = rw (nack_bytes, length-each 4 nacks, four) (rw append-nil at (each-numbers nacks [] fit));
       destination_back =
           rw answer
-          (part_here (destination_at (22 + 4 * n) f.flags) (length destination) p destination (if_there (bit 7 f.flags) f.max_size ++ (signature ++ payload)) tail.destination_here refl);
+          (part_here (destination_begins (22 + 4 * n) f.flags) (length destination) p destination (if_there (bit 7 f.flags) f.max_size ++ (signature ++ payload)) tail.destination_here refl);
       signature_back = rw answer (part_here (signed_at f nacks destination) (length signature) p signature payload tail.signature_here refl);
       payload_back = rw (answer, tail.payload_here) (take-length payload);
     }

@@ -19,7 +19,7 @@ use Rattle.wire.specs.BigEndian.{is_byte, bytes_of, bytes_of_each, number_at, nu
 use Rattle.wire.proofs.RoundTrip.{number_small, peel, peel_each, length-numbers}
 use Rattle.packet_read.specs.Flags.{bit}
 use Rattle.packet_read.specs.Destination.{Whole, destination_in, signs_of, is_destination}
-use Rattle.packet_read.specs.Options.{destination_at, max_at, signature_at, no_destination, signature_size, found}
+use Rattle.packet_read.specs.Options.{destination_begins, max_at, signature_at, no_destination, signature_size, found}
 use Rattle.packet_read.specs.Reading.{nack_count, flags_of, options_at, options_end, fields_read, read_of, fields_in, fields_of, spanned}
 use Rattle.packet_read.specs.declared.Packet.{Packet}
 use Rattle.packet_read.proofs.Form.{size-inside}
@@ -97,7 +97,7 @@ module _ (p : List ℕ) (v : Packet) (bytes : all is_byte p ≡ true) (r : Reada
   flags = flags_of p
 
   abbrev from : ℕ
-  from = destination_at at flags
+  from = destination_begins at flags
 
   abbrev place : ℕ
   place = signature_at at flags r.d.size

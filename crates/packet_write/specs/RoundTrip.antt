@@ -5,7 +5,7 @@ use Rattle.terms.specs.Ladder.{◌when◌else◌}
 use Rattle.terms.specs.Lists.{◌at_front_of◌}
 use Rattle.wire.specs.BigEndian.{bytes_of_each}
 use Rattle.packet_read.specs.Flags.{bit}
-use Rattle.packet_read.specs.Options.{destination_at}
+use Rattle.packet_read.specs.Options.{destination_begins}
 use Rattle.packet_read.specs.Reading.{read_of, nacks_of, nack_numbers_of, destination_of, signature_of, payload_of}
 use Rattle.packet_read.specs.declared.Packet.{Packet}
 use Rattle.packet_write.specs.Writing.{Written, written, signed_at, packet_bytes, write_of, output_after}
@@ -36,7 +36,7 @@ module _ (f : Fields) (nacks destination signature payload : List ℕ) where
     resend_delay = f.resend_delay;
     flags = f.flags;
     delay = f.delay;
-    destination = record { at = destination_at (22 + 4 * length nacks) f.flags; len = length destination };
+    destination = record { at = destination_begins (22 + 4 * length nacks) f.flags; len = length destination };
     max_size = f.max_size;
     signature = record { at = signed_at f nacks destination; len = length signature };
     leftover = 0;

@@ -14,7 +14,7 @@ ghost use Rattle.packet_write.specs.Writing.{said_writing, write_of, output_afte
 use terms::{Refusal, SeqNo, StreamId};
 
 // The numbers of a packet. An option whose flag bit is clear has the number 0.
-#[derive(Drop)]
+#[derive(Clone, Copy)]
 pub struct Fields {
     pub send_stream_id: StreamId,
     pub recv_stream_id: StreamId,
@@ -27,7 +27,7 @@ pub struct Fields {
 }
 
 // The answer of `write`: how long the packet is and where its signature begins, 0 without bit 3.
-#[derive(Drop)]
+#[derive(Clone, Copy)]
 pub enum Writing {
     Written(usize, usize),
     Refused(Refusal),

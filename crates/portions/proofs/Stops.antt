@@ -1,6 +1,6 @@
 -- Any reader of which a byte gives out one thing at most: what a portion holds is what a call gives, and then what the bytes hold that it did not
 -- use. So after any offers the whole line gives what the calls gave, and then what the bytes not yet used give. Assumes nothing.
-use Prim.Native.Nat.{ℕ, suc, ◌+◌, ◌≤◌, ◌<◌}
+use Prim.Native.Nat.{ℕ, suc, ◌≤◌, ◌<◌}
 use mathlib.Core.Path.{◌≡◌, refl, ap, sym, ◌∙◌}
 use mathlib.Core.List.{List, [], ◌∷◌, ◌++◌, append-nil}
 use native.Mathlib.Omega.{arith}

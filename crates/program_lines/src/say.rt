@@ -1,5 +1,10 @@
 // Words and numbers on standard output. What cannot be written there is told on standard error.
-use libc::{STDERR_FILENO, STDOUT_FILENO};
+// The numbers of the standard streams.
+pub const STDIN_FILENO: i32 = 0;
+
+pub const STDOUT_FILENO: i32 = 1;
+
+const STDERR_FILENO: i32 = 2;
 
 // What is wrong, on standard error.
 pub fn fault(words: &[u8]) {

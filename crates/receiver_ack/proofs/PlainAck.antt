@@ -13,7 +13,6 @@ use Rattle.terms.specs.declared.StreamId.{StreamId}
 use Rattle.terms.specs.Ladder.{◌when◌else◌}
 use Rattle.terms.specs.Lists.{◌at_front_of◌}
 use Rattle.terms.proofs.Laws.{rung, and_left, past}
-use Rattle.wire.proofs.RoundTrip.{fits}
 use Rattle.terms.specs.Answers.{Said, refusal, values}
 use Rattle.receiver_state.specs.Rules.{rules_of, slot_fits, sizes_fit}
 use Rattle.receiver_calls.specs.Meaning.{Sound}

@@ -140,7 +140,7 @@ short-told false why n e = let z : ◌≡◌ {A = ℕ} 0 1 = cc in absurd (omega
 length-told : (t : Bool) (m at n : ℕ) → written m at ≡ (refusal 7 when t else written n 0) → values (m ∷ []) ≡ (refusal 7 when t else values (n ∷ []))
 length-told true m at n e = let z : ◌≡◌ {A = ℕ} 0 1 = cc in absurd (omega arith)
 length-told false m at n e =
-    let w : ◌≡◌ {A = Written} (record { length-is = m; signature_begins = at }) (record { length-is = n; signature_begins = 0 }) = cc in
+    let w : ◌≡◌ {A = Written} (record { length-is = m; signature_at = at }) (record { length-is = n; signature_at = 0 }) = cc in
     ap (λ (x : Written). values (x.length-is ∷ [])) w
 
 module _ (next highest : ℕ) (marks : List ℕ) (send recv : StreamId) where

@@ -24,7 +24,7 @@ const MAX_NACKS: usize = 255;
 const CHOKING_REQUEST: u16 = 60001;
 
 // The ack fields of a packet. The NACKs are the first of the numbers in the table that `fields` was lent, so many as nacks says.
-#[derive(Drop)]
+#[derive(Clone, Copy)]
 pub struct AckFields {
     pub nacks: usize,
     pub ack_through: SeqNo,
@@ -33,7 +33,7 @@ pub struct AckFields {
 }
 
 // What acknowledge answers: how long the packet is.
-#[derive(Drop)]
+#[derive(Clone, Copy)]
 pub enum Acknowledged {
     Written(usize),
     Refused(Refusal),

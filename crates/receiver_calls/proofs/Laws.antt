@@ -9,7 +9,7 @@ use native.Mathlib.Decide.{ℕ_discrete, dec_le, dec_lt}
 use native.Mathlib.Omega.{arith}
 use borrow.Author.Tests.{lt-ltb, le-ltb, le-leb, lt-leb, leb-true, eq-eqb, ne_eqb, eqb-true, eqb-false, not-false}
 use lib.Dec.{leb, ltb, eqb}
-use lib.ListN.{length, set, replicate, length-set, length-take, length-drop, get_or-replicate}
+use lib.ListN.{length, set, length-set, length-take, length-drop, get_or-replicate}
 use Rattle.terms.specs.declared.SeqNo.{SeqNo}
 use Rattle.terms.specs.Ladder.{◌when◌else◌}
 use Rattle.terms.specs.Lists.{◌at_front_of◌}

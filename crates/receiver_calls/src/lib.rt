@@ -12,13 +12,13 @@ use receiver_state::{Head, Receiver};
 use terms::{Answer, Given, Refusal, SeqNo};
 
 // The answer of each call stands beside the state after it, which a refusal leaves as it was.
-#[derive(Drop)]
+#[derive(Clone, Copy)]
 pub struct Accepted {
     pub answer: Answer,
     pub state: Receiver,
 }
 
-#[derive(Drop)]
+#[derive(Clone, Copy)]
 pub struct Taken {
     pub answer: Given,
     pub state: Receiver,
@@ -75,7 +75,7 @@ fn hold(h: Head, number: SeqNo) -> Head
 }
 
 // What accept leaves beside the table and the store.
-#[derive(Drop)]
+#[derive(Clone, Copy)]
 pub struct AcceptedIn {
     pub answer: Answer,
     pub head: Head,
@@ -91,7 +91,7 @@ pub fn accept_in(
 ) -> AcceptedIn
     requires { length marks.old ≡ 512 }
     ensures { accepted_over result marks.new store.new
-        ≡ accept_of (h over marks.now) number payload.now store.old }
+        ≡ accept_of (h over marks.old) number payload.now store.old }
 {
     let answer = judge_accept(h, &*marks, number, payload.len(), store.len());
     match answer {
@@ -169,7 +169,7 @@ fn release(h: Head) -> Head
 }
 
 // What take leaves beside the table and the output.
-#[derive(Drop)]
+#[derive(Clone, Copy)]
 pub struct TakenIn {
     pub answer: Given,
     pub head: Head,
@@ -179,7 +179,7 @@ pub struct TakenIn {
 pub fn take_in(h: Head, marks: &mut [u16; 512], store: &[u8], output: &mut [u8]) -> TakenIn
     requires { length marks.old ≡ 512 }
     ensures { took_over result marks.new output.new
-        ≡ take_of (h over marks.now) store.now output.old }
+        ≡ take_of (h over marks.old) store.now output.old }
 {
     let answer = judge_take(h, &*marks, store.len(), output.len());
     match answer {

@@ -13,7 +13,7 @@ use terms::{Answer, Refusal, SeqNo};
 
 // What a receiver keeps beside its table. Where the table is lent, these are handed over by value.
 #[repr(C)]
-#[derive(Drop)]
+#[derive(Clone, Copy)]
 pub struct Head {
     // the slot size S
     pub slot: u32,
@@ -28,14 +28,14 @@ pub struct Head {
 // The state. A mark says all of its slot: 0 where it is free, and a held payload's length and one, so that a length on a free slot
 // cannot be written down.
 #[repr(C)]
-#[derive(Drop)]
+#[derive(Clone, Copy)]
 pub struct Receiver {
     pub head: Head,
     pub marks: [u16; 512],
 }
 
 // What start leaves; a refused start has no state to leave, and gives one that every later call refuses with 11.
-#[derive(Drop)]
+#[derive(Clone, Copy)]
 pub struct Started {
     pub answer: Answer,
     pub state: Receiver,

@@ -1,6 +1,6 @@
 -- Of the seven exactly one holds, for every number in every state that keeps the rules, and it is the one that is given. Assumes nothing.
-use Prim.Native.Nat.{ℕ, ◌+◌, ◌-◌, ◌≤◌, ◌<◌}
-use mathlib.Core.Path.{◌≡◌, refl, sym, ◌∙◌, ap}
+use Prim.Native.Nat.{ℕ, ◌+◌, ◌≤◌, ◌<◌}
+use mathlib.Core.Path.{◌≡◌, sym, ◌∙◌, ap}
 use mathlib.Core.Bool.{true, false, true≢false}
 use native.Mathlib.Decide.{ℕ_discrete, dec_le, dec_lt}
 use native.Mathlib.Omega.{arith}
@@ -14,7 +14,7 @@ use Rattle.receiver_state.specs.declared.Receiver.{Receiver}
 use Rattle.receiver_state.proofs.Facts.{Ruled, ruled}
 use Rattle.receiver_why.specs.Reasons.{Case, below_start, was_taken, is_ready, behind_gap, never_came, not_yet_seen, beyond_span, case_of, said_case, smallest_missing, why_of}
 use Rattle.receiver_why.specs.Stands.{IsHeld, Holds, ExactlyOneCase}
-use Rattle.receiver_why.proofs.Cases.{lacks, below-is, taken_is, beyond_is, unseen-is, never_is, gap_is, ready_is, smallest-first, none_below, is-smallest, at_most, missing_of_lem}
+use Rattle.receiver_why.proofs.Cases.{lacks, below-is, taken_is, beyond_is, unseen-is, never_is, gap_is, ready_is, none_below, is-smallest, at_most, missing_of_lem}
 
 module _ (r : Receiver) (f : Ruled r) (n : ℕ) where
   -- a case that holds is the one that is told

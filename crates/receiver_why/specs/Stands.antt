@@ -1,5 +1,5 @@
 -- What the answer means: the seven cases, each by itself and with no order among them, and that exactly one of them holds.
-use Rattle.std.specs.Prelude.{ℕ, ◌+◌, ◌≤◌, ◌<◌, ◌≡◌, true, false, [], ◌∷◌}
+use Rattle.std.specs.Prelude.{ℕ, ◌+◌, ◌≤◌, ◌<◌, ◌≡◌, true, false}
 use Rattle.terms.specs.declared.SeqNo.{SeqNo}
 use Rattle.receiver_state.specs.Slots.{mark_of}
 use Rattle.receiver_calls.specs.Meaning.{is_missing}

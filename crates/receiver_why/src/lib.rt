@@ -9,7 +9,7 @@ use receiver_state::{Head, Receiver};
 use terms::{Refusal, SeqNo};
 
 // Where a number stands. The words are document 02's, request [6].
-#[derive(Drop)]
+#[derive(Clone, Copy)]
 pub enum Reason {
     // the unusable last number
     LastNumber,

@@ -14,33 +14,33 @@ use sender_state::{Sender, Tally};
 use terms::Answer;
 
 // What acks answered, where it was asked.
-#[derive(Drop)]
+#[derive(Clone, Copy)]
 pub enum AcksTold {
     Unasked,
     Asked(Tally),
 }
 
 // What accept answered, where it was asked.
-#[derive(Drop)]
+#[derive(Clone, Copy)]
 pub enum AcceptTold {
     Unasked,
     Asked(Answer),
 }
 
-#[derive(Drop)]
+#[derive(Clone, Copy)]
 pub struct AckedHere {
     pub told: AcksTold,
     pub sender: Sender,
 }
 
-#[derive(Drop)]
+#[derive(Clone, Copy)]
 pub struct AcceptedHere {
     pub told: AcceptTold,
     pub receiver: Receiver,
 }
 
 // The answers, and both halves after them.
-#[derive(Drop)]
+#[derive(Clone, Copy)]
 pub struct Arrived {
     pub read: Answer,
     pub acks: AcksTold,

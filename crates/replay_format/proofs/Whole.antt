@@ -1,18 +1,17 @@
 -- Read byte by byte, a file gives what it says as a whole. Assumes nothing.
 use Prim.Native.Nat.{ℕ, zero, suc, ◌+◌, ◌*◌, ◌≤◌, ◌<◌}
 use mathlib.Core.Path.{◌≡◌, refl, ap, sym, ◌∙◌, subst}
-use mathlib.Core.Bool.{Bool, true, false, ◌&&◌, ◌||◌, not}
+use mathlib.Core.Bool.{Bool, true, false, ◌&&◌, not}
 use mathlib.Core.List.{List, [], ◌∷◌, ◌++◌, append-nil}
 use native.Mathlib.Omega.{arith}
-use borrow.Author.Tests.{ltb-true, ltb-false, eqb-true, eqb-false, lt-ltb, le-ltb, ne_eqb, eq-eqb}
-use lib.Dec.{eqb, ltb, leb}
-use lib.ListN.{length, take, drop, get_or, length-append, length-take, length-drop, take-append-drop}
+use borrow.Author.Tests.{ltb-true, ltb-false, eqb-true, eqb-false, le-ltb, ne_eqb, eq-eqb}
+use lib.Dec.{eqb, ltb}
+use lib.ListN.{length, take, drop, length-append, length-take, length-drop, take-append-drop}
 use lib.Seq.{append_snoc}
 use Rattle.terms.specs.Ladder.{◌when◌else◌}
-use Rattle.terms.specs.Answers.{Said, refusal, values}
 use Rattle.portions.specs.Fold.{Left, quiet, behind, read_all}
 use Rattle.replay_format.specs.Night.{Record, Night, ends_with, ◌then_night◌, front_of16, has_place, size_fits, data_fits, records_in, night_of}
-use Rattle.replay_format.specs.Bytes.{Known, in_head, before_record, at_length, in_length, in_data, ended, completes, read_night_byte, end_says, night_by_bytes}
+use Rattle.replay_format.specs.Bytes.{Known, in_head, before_record, at_length, in_data, ended, completes, read_night_byte, end_says, night_by_bytes}
 
 -- what a reader's outcome says as a night
 abbrev night_in : Left Known Record → Night

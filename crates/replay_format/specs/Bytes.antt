@@ -1,6 +1,6 @@
 -- The same file read byte by byte: what is known after each byte, and the record that a byte completes. It gives what the whole file says,
 -- however the file is cut (proofs/Whole).
-use Rattle.std.specs.Prelude.{ℕ, zero, suc, ◌+◌, ◌*◌, Bool, true, false, ◌&&◌, not, List, [], ◌∷◌, ◌++◌, leb, ltb, eqb, length, get_or}
+use Rattle.std.specs.Prelude.{ℕ, zero, suc, ◌+◌, ◌*◌, Bool, true, false, not, List, [], ◌∷◌, ◌++◌, ltb, eqb, length}
 use Rattle.terms.specs.Ladder.{◌when◌else◌}
 use Rattle.terms.specs.Answers.{Said, refusal, values}
 use Rattle.portions.specs.Fold.{Left, quiet, read_all}

@@ -1,5 +1,5 @@
 -- The law of one call: what the bytes of its portion say is what it answers, and then what the reader finds in the bytes that it did not use. Assumes nothing.
-use Prim.Native.Nat.{ℕ, ◌+◌, ◌≤◌}
+use Prim.Native.Nat.{ℕ, ◌≤◌}
 use mathlib.Core.Path.{◌≡◌, refl, ap, sym, ◌∙◌, subst}
 use mathlib.Core.Bool.{true, false}
 use mathlib.Core.List.{List, [], ◌∷◌, ◌++◌}
@@ -8,7 +8,7 @@ use native.Mathlib.Omega.{arith}
 use lib.ListN.{length, take, drop, length-append, length-drop}
 use lib.Seq.{take-append_seam}
 use Rattle.terms.specs.Lists.{all, ◌at_front_of◌}
-use Rattle.terms.specs.Answers.{Said, refusal, values}
+use Rattle.terms.specs.Answers.{refusal, values}
 use Rattle.wire.specs.BigEndian.{is_byte}
 use Rattle.portions.specs.Fold.{Left, quiet, behind, read_all}
 use Rattle.portions.specs.Stops.{until_given}

@@ -1,9 +1,9 @@
 -- Calls one after another: a host that offers again what was not used is given what the file says. Assumes nothing.
-use Prim.Native.Nat.{ℕ, zero, suc, ◌≤◌}
-use mathlib.Core.Path.{◌≡◌, refl, ap, sym, ◌∙◌, subst}
+use Prim.Native.Nat.{ℕ, ◌≤◌}
+use mathlib.Core.Path.{◌≡◌, refl, ap, sym, ◌∙◌}
 use mathlib.Core.Bool.{Bool, true, false}
 use mathlib.Core.List.{List, [], ◌∷◌, ◌++◌, append-nil}
-use mathlib.Core.Logic.{◌⊎◌, inl, inr, ⊎_elim}
+use mathlib.Core.Logic.{⊎_elim}
 use native.Mathlib.Omega.{arith}
 use lib.Dec.{eqb}
 use lib.ListN.{length, take, drop, take-append-drop}
@@ -12,17 +12,17 @@ use Rattle.terms.specs.Lists.{all}
 use Rattle.terms.specs.Answers.{Said, refusal, values, ◌unless_refused◌else◌}
 use Rattle.wire.specs.BigEndian.{is_byte}
 use Rattle.wire.proofs.RoundTrip.{all_take, all_drop}
-use Rattle.portions.specs.Fold.{Left, behind, read_all}
+use Rattle.portions.specs.Fold.{behind, read_all}
 use Rattle.portions.proofs.Folds.{behind-behind}
 use Rattle.portions.proofs.Stops.{in_line}
-use Rattle.replay_format.specs.Night.{Record, Night, night_of}
-use Rattle.replay_format.specs.Bytes.{Known, in_head, before_record, at_length, in_length, in_data, read_night_byte, end_says}
+use Rattle.replay_format.specs.Night.{Night, night_of}
+use Rattle.replay_format.specs.Bytes.{in_head, before_record, at_length, in_length, in_data, read_night_byte, end_says}
 use Rattle.replay_format.proofs.Whole.{night_read}
 use Rattle.replay_reader.specs.Rules.{known_of, reader_rules, night_start}
-use Rattle.replay_reader.specs.ReadOn.{Onwards, read_on_of}
+use Rattle.replay_reader.specs.ReadOn.{read_on_of}
 use Rattle.replay_reader.specs.Finish.{finish_of}
 use Rattle.replay_reader.specs.declared.NightReader.{NightReader}
-use Rattle.replay_pieces.specs.Offers.{PiecesRead, record_met, pieces_read, pieces_of, PiecesDone, night_pieced}
+use Rattle.replay_pieces.specs.Offers.{PiecesRead, record_met, pieces_read, pieces_of, night_pieced}
 use Rattle.replay_pieces.specs.Promises.{HoweverPieced}
 use Rattle.replay_pieces.proofs.Kept.{one_at_most}
 use Rattle.replay_pieces.proofs.Calls.{night_left, Goes, CallLaw, call_law}

@@ -1,16 +1,16 @@
 -- What the bytes of a portion do to a reader within a record's data, in a call that stops at the first complete record. Assumes nothing.
 use Prim.Native.Nat.{ℕ, zero, suc, ◌+◌, ◌≤◌, ◌<◌}
-use mathlib.Core.Path.{◌≡◌, refl, ap, sym, ◌∙◌}
-use mathlib.Core.Bool.{Bool, true, false, ◌||◌, not}
+use mathlib.Core.Path.{◌≡◌, refl, ap, ◌∙◌}
+use mathlib.Core.Bool.{Bool, true, false, ◌||◌}
 use mathlib.Core.List.{List, [], ◌∷◌, ◌++◌, append-nil}
 use native.Mathlib.Omega.{arith}
 use borrow.Author.Tests.{eq-eqb, ne_eqb, le-leb, lt-leb}
-use lib.Dec.{leb, eqb}
+use lib.Dec.{leb}
 use lib.ListN.{length, take, drop, get_or, length-append}
 use lib.Seq.{append_snoc, drop-cons}
-use Rattle.portions.specs.Stops.{OneCall, until_given}
-use Rattle.replay_format.specs.Night.{Record, size_fits, data_fits}
-use Rattle.replay_format.specs.Bytes.{Known, in_data, before_record, ended, read_night_byte}
+use Rattle.portions.specs.Stops.{until_given}
+use Rattle.replay_format.specs.Night.{size_fits, data_fits}
+use Rattle.replay_format.specs.Bytes.{in_data, before_record, ended, read_night_byte}
 
 -- reading that has ended
 pub until_ended : (why : ℕ) (bytes : List ℕ) → until_given read_night_byte (ended why) bytes ≡ record { gave = []; used = length bytes; state = ended why }

@@ -2,7 +2,7 @@
 use Prim.Native.Nat.{ℕ, ◌≤◌, ◌<◌}
 use mathlib.Core.Path.{◌≡◌, refl, ap, sym, ◌∙◌}
 use mathlib.Core.Bool.{Bool, true, false, ◌&&◌}
-use mathlib.Core.List.{List, [], ◌++◌}
+use mathlib.Core.List.{List, ◌++◌}
 use native.Mathlib.Omega.{arith}
 use borrow.Author.Tests.{eq-eqb, ne_eqb, eqb-true, eqb-false, leb-true, ltb-true}
 use lib.Dec.{eqb, ltb, leb}
@@ -10,7 +10,7 @@ use lib.ListN.{length, take, drop, take-append-drop}
 use lib.Seq.{length-take-le}
 use Rattle.terms.specs.Lists.{◌at_front_of◌}
 use Rattle.replay_format.specs.Night.{size_fits}
-use Rattle.replay_format.specs.Bytes.{Known, in_head, before_record, at_length, in_length, in_data, ended}
+use Rattle.replay_format.specs.Bytes.{Known, in_head, before_record, at_length, in_length, in_data}
 use Rattle.replay_reader.specs.Rules.{known_of, numbers_of, data_there, reader_rules}
 use Rattle.replay_reader.specs.ReadOn.{Onwards, ◌unless_ended◌by◌}
 use Rattle.replay_reader.specs.declared.NightReader.{NightReader}

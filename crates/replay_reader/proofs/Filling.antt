@@ -1,6 +1,6 @@
 -- A law for each way out of `fill`. Assumes nothing.
 use Prim.Native.Nat.{ℕ, ◌+◌, ◌-◌, ◌≤◌, ◌<◌}
-use mathlib.Core.Path.{◌≡◌, refl, ap, sym, ◌∙◌}
+use mathlib.Core.Path.{◌≡◌, ap, sym, ◌∙◌}
 use mathlib.Core.Bool.{true, false}
 use mathlib.Core.List.{List, [], ◌∷◌, ◌++◌}
 use native.Mathlib.Omega.{arith}
@@ -12,8 +12,7 @@ use Rattle.terms.specs.Answers.{values}
 use Rattle.wire.proofs.Parts.{then_put}
 use Rattle.portions.specs.Stops.{OneCall, used_before, until_given}
 use Rattle.replay_format.specs.Night.{Record, size_fits, data_fits}
-use Rattle.replay_format.specs.Bytes.{Known, in_data, before_record, read_night_byte}
-use Rattle.replay_reader.specs.Rules.{numbers_of}
+use Rattle.replay_format.specs.Bytes.{Known, in_data, read_night_byte}
 use Rattle.replay_reader.specs.ReadOn.{Onwards, turned_back, onward_by}
 use Rattle.replay_reader.specs.declared.NightReader.{NightReader}
 use Rattle.replay_reader.proofs.Facts.{either, path_one}

@@ -1,29 +1,29 @@
 -- A byte outside a record's data, and the loop over such bytes: what was read so far, and behind it what is left of the portion, is the whole portion. Assumes
 -- nothing.
-use Prim.Native.Nat.{ℕ, suc, ◌+◌, ◌-◌, ◌≤◌, ◌<◌}
+use Prim.Native.Nat.{ℕ, suc, ◌+◌, ◌≤◌, ◌<◌}
 use mathlib.Core.Path.{◌≡◌, refl, ap, sym, ◌∙◌}
 use mathlib.Core.Bool.{true, false}
 use mathlib.Core.List.{List, [], ◌∷◌}
 use native.Mathlib.Numerals.{add-one}
 use native.Mathlib.Omega.{arith}
-use borrow.Author.Tests.{ne_eqb, le-ltb, lt-ltb, le-leb}
+use borrow.Author.Tests.{le-ltb, lt-ltb, le-leb}
 use lib.ListN.{length, take, drop, get_or, drop_of_length-le}
 use lib.Seq.{drop-cons}
-use Rattle.terms.specs.Answers.{refusal, values}
+use Rattle.terms.specs.Answers.{values}
 use Rattle.terms.specs.Lists.{◌at_front_of◌}
 use Rattle.terms.specs.Refusals.{number_of}
 use Rattle.terms.specs.declared.Refusal.{Refusal}
-use Rattle.portions.specs.Fold.{Left, quiet}
+use Rattle.portions.specs.Fold.{quiet}
 use Rattle.portions.specs.Stops.{OneCall, used_before, until_given}
-use Rattle.replay_format.specs.Night.{Record, size_fits}
-use Rattle.replay_format.specs.Bytes.{Known, in_head, before_record, at_length, in_length, in_data, ended, completes, head_byte, read_night_byte}
+use Rattle.replay_format.specs.Night.{Record}
+use Rattle.replay_format.specs.Bytes.{Known, in_head, before_record, in_length, in_data, ended, completes, head_byte, read_night_byte}
 use Rattle.replay_reader.specs.Rules.{known_of, numbers_of, data_there, reader_rules}
 use Rattle.replay_reader.specs.ReadOn.{Onwards, turned_back, onward_by, read_on_of}
 use Rattle.replay_reader.specs.Steps.{StepsTo, stepped_to, stepped_keeps}
 use Rattle.replay_reader.specs.declared.NightReader.{NightReader}
 use Rattle.replay_reader.specs.declared.Stepped.{Stepped}
 use Rattle.replay_reader.specs.declared.Stepped.TheVariants as S
-use Rattle.replay_reader.proofs.Facts.{Ruled, ruled, either, some_phase, kind_there, known_head, known_first, known_other, known_kind, known_high, known_data}
+use Rattle.replay_reader.proofs.Facts.{ruled, kind_there, known_head, known_first, known_other, known_kind, known_high, known_data}
 use Rattle.replay_reader.proofs.Data.{until_ended}
 
 module _ (r : NightReader) (byte : ℕ) (s : Stepped) where

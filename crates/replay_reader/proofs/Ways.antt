@@ -1,25 +1,24 @@
 -- A law for each way out of the small functions: which kind may stand where, which data fits it, the rules, and one byte outside a record's data. Assumes
 -- nothing.
 use Prim.Native.Nat.{ℕ, zero, suc, ◌+◌, ◌*◌, ◌≤◌, ◌<◌}
-use mathlib.Core.Path.{◌≡◌, refl, ap, sym, ◌∙◌, subst}
+use mathlib.Core.Path.{◌≡◌, refl, ap, subst}
 use mathlib.Core.Bool.{Bool, true, false, ◌&&◌}
-use mathlib.Core.List.{List, [], ◌∷◌}
+use mathlib.Core.List.{[], ◌∷◌}
 use native.Mathlib.Omega.{arith}
 use borrow.Author.Tests.{eq-eqb, ne_eqb, le-leb, lt-leb, lt-ltb, le-ltb, eqb-true, leb-true}
 use lib.Dec.{eqb, ltb, leb}
 use lib.ListN.{get_or, take}
 use Rattle.terms.specs.declared.Refusal.TheVariants as R
-use Rattle.terms.specs.Answers.{Said, refusal, values}
+use Rattle.terms.specs.Answers.{refusal, values}
 use Rattle.terms.specs.Ladder.{◌when◌else◌}
 use Rattle.terms.proofs.Laws.{and_right}
-use Rattle.portions.specs.Fold.{Left, quiet}
-use Rattle.replay_format.specs.Night.{Record, has_place, size_fits}
-use Rattle.replay_format.specs.Bytes.{Known, before_record, at_length, in_length, in_data, head_byte, read_night_byte, end_says}
+use Rattle.portions.specs.Fold.{quiet}
+use Rattle.replay_format.specs.Night.{has_place, size_fits}
+use Rattle.replay_format.specs.Bytes.{before_record, at_length, in_length, in_data, head_byte, read_night_byte, end_says}
 use Rattle.replay_reader.specs.Rules.{reader_rules}
 use Rattle.replay_reader.specs.Finish.{finish_of}
 use Rattle.replay_reader.specs.Steps.{StepsTo}
 use Rattle.replay_reader.specs.declared.NightReader.{NightReader}
-use Rattle.replay_reader.specs.declared.Stepped.{Stepped}
 use Rattle.replay_reader.specs.declared.Stepped.TheVariants as S
 
 pub place_first : (first : Bool) (kind : ℕ) → first ≡ true → eqb kind 0 ≡ has_place first kind

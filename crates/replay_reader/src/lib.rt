@@ -20,7 +20,7 @@ const MARK: [u8; 3] = *b"LST";
 
 // The state. A number without a meaning in its phase is 0.
 #[repr(C)]
-#[derive(Drop)]
+#[derive(Clone, Copy)]
 pub struct NightReader {
     // 0: mark and version are to come; 1: the first record is; 2: another record is; 3: a record's kind is there; 4: and the high byte of its length;
     // 5: and its length, with fewer bytes of its data than that
@@ -34,7 +34,7 @@ pub struct NightReader {
 }
 
 // What read_on answers.
-#[derive(Drop)]
+#[derive(Clone, Copy)]
 pub enum Met {
     // a record of this kind and length: its data stands at the buffer's front
     Record(u32, usize),
@@ -44,7 +44,7 @@ pub enum Met {
 }
 
 // The answer, how many bytes of the portion were used, which the host does not offer again, and the reader after the call.
-#[derive(Drop)]
+#[derive(Clone, Copy)]
 pub struct Onward {
     pub answer: Met,
     pub used: usize,
@@ -52,7 +52,7 @@ pub struct Onward {
 }
 
 // What one byte outside a record's data leads to; a record without data is complete at once.
-#[derive(Drop)]
+#[derive(Clone, Copy)]
 pub enum Stepped {
     Next(NightReader),
     Complete(u32),

@@ -13,14 +13,14 @@ use terms::{Answer, SeqNo};
 use timer::Timing;
 
 // The answer stands beside the state after the call, which a refusal leaves as it was.
-#[derive(Drop)]
+#[derive(Clone, Copy)]
 pub struct Acked {
     pub answer: Tally,
     pub state: Sender,
 }
 
 // What acknowledged packets make of timing and window, and how many there were.
-#[derive(Drop)]
+#[derive(Clone, Copy)]
 pub struct Measured {
     pub timing: Timing,
     pub window: u32,

@@ -12,7 +12,7 @@ use terms::SeqNo;
 use timer::Timing;
 
 // What the rules of a place are judged by. The bound is next, or the lowest waiting number where that is below it.
-#[derive(Drop)]
+#[derive(Clone, Copy)]
 pub struct Limits {
     pub chunk: u32,
     pub count: u32,

@@ -1,7 +1,7 @@
 -- Packets that fly get a new time, and nothing else of the table changes: the state stays sound, and each packet keeps its bytes. Assumes nothing.
 use Prim.Native.Nat.{ℕ, zero, suc, ◌≤◌, ◌<◌}
 use mathlib.Core.Path.{◌≡◌, refl, sym, ◌∙◌, ap}
-use mathlib.Core.Bool.{Bool, and_false, true, false, true≢false}
+use mathlib.Core.Bool.{Bool, and-false, true, false, true≢false}
 use mathlib.Core.List.{List, [], ◌∷◌}
 use native.Mathlib.Decide.{ℕ_discrete, dec_le}
 use native.Mathlib.Omega.{arith}
@@ -64,7 +64,7 @@ idle_none s clock path t n =
     by_bool (is_in (expired_of s clock) n)
     (λ e.
     absurd (true≢false (sym (in_front (aged s.numbers s.sent clock (rto_of s.timing)) s.window n (in_flight s) e) ∙ none_in (in_flight s) t n)))
-    (λ f. rw f (and_false path))
+    (λ f. rw f (and-false path))
 
 module _ (s : Sender) (store : List ℕ) (sound : Sound s store) where
   -- a place whose number flies is in flight

@@ -10,14 +10,14 @@ use sender_state::{Sender, Tally};
 use terms::Answer;
 
 // The answer stands beside the state after the call, which a refusal leaves as it was.
-#[derive(Drop)]
+#[derive(Clone, Copy)]
 pub struct Resent {
     pub answer: Tally,
     pub state: Sender,
 }
 
 // The expired packets: how many, and that they are those in flight with numbers below end.
-#[derive(Drop)]
+#[derive(Clone, Copy)]
 pub struct Expired {
     pub count: u32,
     pub end: u32,

@@ -13,14 +13,14 @@ use sender_state::Sender;
 use terms::{Given, Refusal, SeqNo};
 
 // What send answers: the packet's number and length.
-#[derive(Drop)]
+#[derive(Clone, Copy)]
 pub enum Departure {
     Packet { number: SeqNo, size: usize },
     Refused(Refusal),
 }
 
 // The answer stands beside the state after the call, which a refusal leaves as it was.
-#[derive(Drop)]
+#[derive(Clone, Copy)]
 pub struct Sent {
     pub answer: Departure,
     pub state: Sender,

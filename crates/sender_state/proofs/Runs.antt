@@ -1,7 +1,7 @@
 -- Runs of numbers that pass a test, ascending. Assumes nothing.
 use Prim.Native.Nat.{ℕ, zero, suc, ◌+◌, ◌-◌, ◌≤◌, ◌<◌}
 use mathlib.Core.Path.{◌≡◌, refl, sym, ◌∙◌, ap}
-use mathlib.Core.Bool.{Bool, true, false, and_false}
+use mathlib.Core.Bool.{Bool, true, false, and-false}
 use mathlib.Core.List.{List, [], ◌∷◌, ◌++◌}
 use native.Mathlib.Nat.{zero-add, add-zero, suc-add, not-suc-le-zero, le_of_suc-le-suc}
 use native.Mathlib.Numerals.{add-one}
@@ -85,7 +85,7 @@ module _ (p : ℕ → Bool) (n : ℕ) where
       (λ (e : from ≡ n). rw (ap p e ∙ t, eq-eqb from n e))
       (λ (o : from ≡ n → ⊥).
       rung (λ (l : List ℕ). all (differs n) l ≡ false) (p from)
-      (λ _. rw (in_run count (suc from) (omega (arith, o)) (omega arith) t) (and_false (differs n from)))
+      (λ _. rw (in_run count (suc from) (omega (arith, o)) (omega arith) t) (and-false (differs n from)))
       (λ _. in_run count (suc from) (omega (arith, o)) (omega arith) t))
       (ℕ_discrete from n)
 

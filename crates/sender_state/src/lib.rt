@@ -13,7 +13,7 @@ use terms::{Answer, Refusal, SeqNo};
 use timer::Timing;
 
 // When resending is due. Stands for the Rust's `rto_timer`.
-#[derive(Drop)]
+#[derive(Clone, Copy)]
 pub enum Timer {
     Unarmed,
     At(u64),
@@ -21,7 +21,7 @@ pub enum Timer {
 
 // What one place holds: a packet's number and length, when it was last sent, whether it was sent more than once (0 or 1), and the place's mark.
 // The state has a list for each; this is one place of them, for a function that looks at it.
-#[derive(Drop)]
+#[derive(Clone, Copy)]
 pub struct Place {
     pub number: SeqNo,
     pub size: u32,
@@ -33,7 +33,7 @@ pub struct Place {
 
 // The state. Place i is the store's bytes from i times the chunk size and 1,044; what it holds stands at index i of each array.
 // Numbers, lengths and marks are 32 bits wide each, so that one vector instruction compares as many of each.
-#[derive(Drop)]
+#[derive(Clone, Copy)]
 pub struct Sender {
     // the chunk size C
     pub chunk: u32,
@@ -56,14 +56,14 @@ pub struct Sender {
 }
 
 // What start leaves; a refused start has no state to leave, and gives one that every later call refuses with 11.
-#[derive(Drop)]
+#[derive(Clone, Copy)]
 pub struct Started {
     pub answer: Answer,
     pub state: Sender,
 }
 
 // What submit, acks and resend answer: how many packets.
-#[derive(Drop)]
+#[derive(Clone, Copy)]
 pub enum Tally {
     Count(u32),
     Refused(Refusal),

@@ -79,7 +79,7 @@ module _ (acks : AckFields) (nacks : List ℕ) (k : Acking acks nacks) (send rec
     pub chunk-long : (n at : ℕ) → w ≡ W.Written n at → n ≡ length (acked_packet acks nacks send recv number payload)
     chunk-long n at e =
         let s = sym (ap said_writing e) ∙ says ∙ judged in
-        let w : ◌≡◌ {A = Written} (record { length-is = n; signature_begins = at }) (record { length-is = length (acked_packet acks nacks send recv number payload); signature_begins = 0 }) = cc in
+        let w : ◌≡◌ {A = Written} (record { length-is = n; signature_at = at }) (record { length-is = length (acked_packet acks nacks send recv number payload); signature_at = 0 }) = cc in
         ap (λ (x : Written). x.length-is) w
 
     pub chunk-short : (n at : ℕ) → w ≡ W.Written n at → n ≤ 2856

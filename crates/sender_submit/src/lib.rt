@@ -16,7 +16,7 @@ use sender_state::{Sender, Tally};
 use terms::{SeqNo, StreamId};
 
 // How many packets were made, and the state after the call, which a refusal leaves as it was.
-#[derive(Drop)]
+#[derive(Clone, Copy)]
 pub struct Submitted {
     pub answer: Tally,
     pub state: Sender,

@@ -4,8 +4,8 @@
 
 mod tell;
 
-use libc::STDIN_FILENO;
 use program_lines::part;
+use program_lines::say::STDIN_FILENO;
 use serial_feed::Heard;
 use serial_state::LineReader;
 

@@ -7,7 +7,7 @@ use borrow.Author.Tests.{eq-eqb, ne_eqb}
 use lib.ListN.{length, take, length-append}
 use lib.Seq.{append_snoc}
 use Rattle.portions.specs.Stops.{OneCall, used_before, until_given}
-use Rattle.serial_state.specs.Frames.{Coming, idle, within, stopped, read_byte}
+use Rattle.serial_state.specs.Frames.{idle, within, stopped, read_byte}
 
 pub used_none : {State Given : Type 0} (reading : OneCall State Given) → used_before 0 reading ≡ reading
 used_none reading = let e : 0 + reading.used ≡ reading.used = omega arith in λ k. record { gave = reading.gave; used = e k; state = reading.state }

@@ -1,23 +1,23 @@
 -- A law for each way out of the code. Assumes nothing.
-use Prim.Native.Nat.{ℕ, suc, ◌+◌, ◌-◌, ◌*◌, ◌≤◌, ◌<◌}
+use Prim.Native.Nat.{ℕ, ◌+◌, ◌-◌, ◌*◌, ◌≤◌, ◌<◌}
 use mathlib.Core.Path.{◌≡◌, refl, ap, sym, ◌∙◌}
-use mathlib.Core.Bool.{Bool, true, false}
+use mathlib.Core.Bool.{true, false}
 use mathlib.Core.List.{List, [], ◌∷◌, ◌++◌}
 use native.Mathlib.Omega.{arith}
 use borrow.Author.Tests.{eq-eqb, ne_eqb, ltb-false}
 use lib.Dec.{ltb}
 use borrow.Rule.Slice.PartMut.{put_mid}
-use lib.ListN.{length, take, drop, get_or, length-append, length-take, length-drop, take-append-drop}
+use lib.ListN.{length, take, drop, get_or, length-append, length-drop, take-append-drop}
 use lib.Seq.{take_all, length-take-le, drop-cons}
 use Rattle.terms.specs.Lists.{◌at_front_of◌}
-use Rattle.terms.specs.Answers.{refusal, values}
+use Rattle.terms.specs.Answers.{values}
 use Rattle.terms.proofs.Laws.{or_false_left, or_false_right}
 use Rattle.wire.proofs.Parts.{then_put}
 use Rattle.portions.specs.Stops.{OneCall, used_before, until_given}
 use Rattle.serial_state.specs.Frames.{Coming, idle, half, within, stopped, is_unfit, after_length, read_byte}
 use Rattle.serial_state.specs.Rules.{coming_of, reader_of, line_rules}
 use Rattle.serial_state.specs.declared.LineReader.{LineReader}
-use Rattle.serial_state.proofs.Facts.{Within, Ruled, in_phase_2, ruled_idle, ruled_half, ruled_within, ruled_stopped, idle_or_half}
+use Rattle.serial_state.proofs.Facts.{Within, in_phase_2, ruled_idle, ruled_half, ruled_within, ruled_stopped, idle_or_half}
 use Rattle.serial_feed.specs.Feed.{Feeds, turned_away, heard_by, feed_of}
 use Rattle.serial_feed.proofs.Bytes.{used_none, used-one, used_two, until_stopped, within-short, within-full}
 

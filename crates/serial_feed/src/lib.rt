@@ -12,7 +12,7 @@ use serial_state::LineReader;
 use terms::Refusal;
 
 // What feed answers.
-#[derive(Drop)]
+#[derive(Clone, Copy)]
 pub enum Heard {
     // a packet of this length stands at the buffer's front
     Packet(usize),
@@ -22,7 +22,7 @@ pub enum Heard {
 }
 
 // The answer, how many bytes of the portion were used, which the host does not offer again, and the reader after the call.
-#[derive(Drop)]
+#[derive(Clone, Copy)]
 pub struct Fed {
     pub answer: Heard,
     pub used: usize,

@@ -1,9 +1,9 @@
 -- Calls one after another: a host that offers again what was not used hears what the line holds, and then what is left of it. Assumes nothing.
-use Prim.Native.Nat.{ℕ, zero, suc, ◌+◌, ◌≤◌, ◌<◌}
-use mathlib.Core.Path.{◌≡◌, refl, ap, sym, ◌∙◌, subst}
-use mathlib.Core.Bool.{Bool, true, false, ◌||◌, ◌&&◌}
-use mathlib.Core.List.{List, [], ◌∷◌, ◌++◌}
-use mathlib.Core.Logic.{◌⊎◌, inl, inr, ⊎_elim}
+use Prim.Native.Nat.{ℕ, zero, suc, ◌<◌}
+use mathlib.Core.Path.{◌≡◌, refl, ap, sym, ◌∙◌}
+use mathlib.Core.Bool.{Bool, true, false, ◌||◌}
+use mathlib.Core.List.{List, [], ◌∷◌}
+use mathlib.Core.Logic.{inl, inr, ⊎_elim}
 use native.Mathlib.Omega.{arith}
 use borrow.Author.Tests.{leb-true}
 use lib.Dec.{leb}
@@ -17,7 +17,7 @@ use Rattle.portions.proofs.Stops.{in_line}
 use Rattle.serial_state.specs.Frames.{is_stopped, read_byte}
 use Rattle.serial_state.specs.Rules.{coming_of, line_rules}
 use Rattle.serial_state.specs.declared.LineReader.{LineReader}
-use Rattle.serial_feed.specs.Feed.{Feeds, feed_of}
+use Rattle.serial_feed.specs.Feed.{feed_of}
 use Rattle.serial_runs.specs.Offers.{Hearing, packet_at, is_refusal, hears, HostDone}
 use Rattle.serial_runs.proofs.Calls.{one_at_most, FeedLaw, feeds}
 

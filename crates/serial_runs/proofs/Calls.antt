@@ -5,22 +5,21 @@ use mathlib.Core.Bool.{Bool, true, false}
 use mathlib.Core.List.{List, [], ◌∷◌, ◌++◌}
 use native.Mathlib.Omega.{arith}
 use borrow.Author.Tests.{eqb-true, eqb-false, ltb-true}
-use lib.Dec.{eqb, ltb}
-use lib.ListN.{length, take, drop, length-append, length-drop}
+use lib.Dec.{eqb}
+use lib.ListN.{length, drop, length-append, length-drop}
 use lib.Seq.{take-append_seam}
 use Rattle.terms.specs.Ladder.{◌when◌else◌}
 use Rattle.terms.specs.Lists.{all, ◌at_front_of◌}
-use Rattle.terms.specs.Answers.{Said}
 use Rattle.terms.proofs.Laws.{and_left, and_right}
 use Rattle.wire.specs.BigEndian.{is_byte}
 use Rattle.portions.specs.Fold.{Left, quiet, behind, read_all}
-use Rattle.portions.specs.Stops.{OneCall, unless_given, until_given}
+use Rattle.portions.specs.Stops.{unless_given, until_given}
 use Rattle.portions.proofs.Stops as P
-use Rattle.serial_state.specs.Frames.{Coming, idle, half, within, stopped, is_stopped, is_unfit, after_length, read_byte}
+use Rattle.serial_state.specs.Frames.{Coming, idle, half, within, stopped, is_stopped, is_unfit, read_byte}
 use Rattle.serial_state.specs.Rules.{coming_of, reader_of, there_in, line_rules}
 use Rattle.serial_state.specs.declared.LineReader.{LineReader}
-use Rattle.serial_state.proofs.Facts.{Within, Keeps, ruled, keeps-rules, told_back}
-use Rattle.serial_feed.specs.Feed.{Feeds, turned_away, front_in, heard_by, feed_of}
+use Rattle.serial_state.proofs.Facts.{Keeps, ruled, keeps-rules, told_back}
+use Rattle.serial_feed.specs.Feed.{Feeds, heard_by, feed_of}
 use Rattle.serial_feed.proofs.Bytes.{until_stopped}
 use Rattle.serial_feed.proofs.Ways.{length_small, other_buffer, own_buffer}
 use Rattle.serial_runs.specs.Offers.{packet_at, is_refusal}

@@ -1,5 +1,5 @@
 -- The promises. Assumes nothing.
-use Prim.Native.Nat.{ℕ, zero, suc, ◌/◌, ◌%◌, ◌*◌, ◌+◌, ◌<◌}
+use Prim.Native.Nat.{ℕ, zero, suc, ◌/◌, ◌%◌, ◌*◌, ◌+◌}
 use mathlib.Core.Path.{◌≡◌, refl, ap, sym, ◌∙◌, subst}
 use mathlib.Core.Bool.{Bool, true, false, ◌&&◌}
 use mathlib.Core.List.{List, [], ◌∷◌, ◌++◌, append-nil}
@@ -12,7 +12,7 @@ use Rattle.terms.specs.Ladder.{◌when◌else◌}
 use Rattle.terms.specs.Lists.{all}
 use Rattle.terms.proofs.Laws.{and_left, and_right}
 use Rattle.wire.specs.BigEndian.{is_byte}
-use Rattle.portions.specs.Fold.{Left, quiet, behind, read_all}
+use Rattle.portions.specs.Fold.{Left}
 use Rattle.portions.specs.Stops.{until_given}
 use Rattle.serial_state.specs.Frames.{Coming, idle, half, within, stopped, is_stopped, read_byte, frames_of, line_of}
 use Rattle.serial_state.specs.Rules.{coming_of, reader_of, there_in, line_rules}
@@ -23,7 +23,7 @@ use Rattle.serial_feed.specs.Feed.{Feeds, heard_by, feed_of}
 use Rattle.serial_feed.proofs.Bytes.{within-short}
 use Rattle.serial_feed.proofs.Ways.{own_buffer}
 use Rattle.serial_runs.specs.Offers.{Feeding, all_bytes, reader_after, LeftByCalls, hears_from, HostDone}
-use Rattle.serial_runs.specs.Promises.{ElevenExactly, AsOnTheLine, HoweverCut, GetsDone, HonestLine, RefusedLength}
+use Rattle.serial_runs.specs.Promises.{ElevenExactly, HoweverCut, GetsDone, HonestLine, RefusedLength}
 use Rattle.serial_runs.proofs.Lines.{stays, a_line}
 use Rattle.serial_runs.proofs.Calls.{stopped-is, feed_keeps}
 use Rattle.serial_runs.proofs.Along.{heard, gets_done}

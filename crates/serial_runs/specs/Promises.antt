@@ -1,5 +1,5 @@
 -- What is promised of packets over a serial line.
-use Rattle.std.specs.Prelude.{ℕ, ◌+◌, ◌*◌, ◌<◌, ◌≡◌, true, false, List, [], ◌∷◌, ◌++◌, ◌↔◌, leb, length}
+use Rattle.std.specs.Prelude.{ℕ, ◌+◌, ◌*◌, ◌<◌, ◌≡◌, true, false, List, ◌∷◌, ◌++◌, ◌↔◌, leb, length}
 use Rattle.terms.specs.Lists.{all}
 use Rattle.wire.specs.BigEndian.{is_byte}
 use Rattle.serial_state.specs.Frames.{is_stopped, is_unfit, frames_of, line_of, all_fit_line}

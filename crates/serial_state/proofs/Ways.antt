@@ -1,7 +1,6 @@
 -- A law for each way out of `keeps_rules`. Assumes nothing.
-use Prim.Native.Nat.{ℕ}
 use mathlib.Core.Path.{◌≡◌}
-use mathlib.Core.Bool.{Bool, false, ◌&&◌}
+use mathlib.Core.Bool.{false, ◌&&◌}
 use borrow.Author.Tests.{eq-eqb, ne_eqb}
 use lib.Dec.{eqb, ltb, leb}
 use Rattle.serial_state.specs.Rules.{line_rules}

@@ -8,7 +8,7 @@ ghost use Rattle.serial_state.specs.Start.{line_start};
 
 // The state. The bytes that are there of an unfinished packet stand at the front of a buffer that the host lends. A number without a meaning in its phase is 0.
 #[repr(C)]
-#[derive(Drop)]
+#[derive(Clone, Copy)]
 pub struct LineReader {
     // the buffer's length at the start
     pub room: usize,

@@ -7,16 +7,16 @@ ghost use Rattle.terms.specs.Refusals.{number_of};
 
 // A stream's id. A call that wants one takes no `SeqNo`.
 #[repr(C)]
-#[derive(Drop)]
+#[derive(Clone, Copy)]
 pub struct StreamId(pub u32);
 
 // A packet's sequence number.
 #[repr(C)]
-#[derive(Drop)]
+#[derive(Clone, Copy)]
 pub struct SeqNo(pub u32);
 
 // Document 01's refusals, in the order of its table, whose own lines the comments are, and those that document 02 adds.
-#[derive(Drop)]
+#[derive(Clone, Copy)]
 pub enum Refusal {
     // packet shorter than 22, 22+4n or 22+4n+o
     PacketShort,
@@ -124,14 +124,14 @@ impl Refusal {
 }
 
 // What a call answers that gives nothing beside its state.
-#[derive(Drop)]
+#[derive(Clone, Copy)]
 pub enum Answer {
     Done,
     Refused(Refusal),
 }
 
 // What a call answers that copies bytes out: how many.
-#[derive(Drop)]
+#[derive(Clone, Copy)]
 pub enum Given {
     Bytes(usize),
     Refused(Refusal),

@@ -7,7 +7,7 @@ ghost use Rattle.timer.specs.Window.{grown_of, fallen_of};
 
 // What the samples so far have told. One enum stands for the Rust's `Rtt` and `Rto`, since document 01 has both become
 // unsampled together: a sampled time beside an unsampled timeout cannot be written down. The timeout is computed from it.
-#[derive(Drop)]
+#[derive(Clone, Copy)]
 pub enum Timing {
     // no sample since the start, or since packets were last resent
     Unsampled,

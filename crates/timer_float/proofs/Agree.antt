@@ -1,13 +1,13 @@
 -- The two engines agree on every pair of times below 2 ^ 32: every number on the way is an eighth of a whole number below 2 ^ 35, so nothing is rounded. Assumes nothing.
-use mathlib.Core.Path.{◌≡◌, refl, sym, ap, ap₂, ◌∙◌, subst}
-use Prim.Native.Nat.{ℕ, ◌+◌, ◌-◌, ◌*◌, ◌/◌, ◌%◌, ◌^◌, ◌≤◌, ◌<◌}
+use mathlib.Core.Path.{◌≡◌, refl, sym, ap, ◌∙◌, subst}
+use Prim.Native.Nat.{ℕ, ◌+◌, ◌-◌, ◌*◌, ◌/◌, ◌%◌, ◌^◌, ◌<◌}
 use native.Mathlib.Nat.{mul_assoc, one-mul, lt_of_lt_of_le, lt_of_le_of_lt, le_of_lt, mul-le-mul, mod-le}
 use native.Mathlib.Omega.{arith}
-use mathlib.Core.Bool.{Bool, true, false}
-use lib.IntN.{ℤ, pos, negsuc}
+use mathlib.Core.Bool.{false}
+use lib.IntN.{pos, negsuc}
 use lib.Dec.{T, le→leb, lit≤, lit<}
 use lib.Pow.{pow_mono, shl_lt}
-use lib.Ieee.{Float, fin, binary64, low, prec, emax, round, of_bits, of_int, add, mul, sub, rem, to_unsigned, in_unsigned, in_float}
+use lib.Ieee.{Float, fin, binary64, round, of_bits, of_int, mul, rem, to_unsigned, in_unsigned, in_float}
 use lib.Ieee.Exact.{HasValue, round_exact}
 use lib.Ieee.Scale.{round_same}
 use lib.Ieee.Back.{round_whole, unsigned_back}

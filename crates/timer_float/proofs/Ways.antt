@@ -3,7 +3,7 @@ use Prim.Native.Nat.{ℕ, ◌≤◌, ◌<◌}
 use mathlib.Core.Path.{◌≡◌}
 use mathlib.Core.List.{[], ◌∷◌}
 use borrow.Author.Tests.{lt-ltb, le-ltb}
-use Rattle.terms.specs.Answers.{Said, refusal, values}
+use Rattle.terms.specs.Answers.{refusal, values}
 use Rattle.timer_float.specs.Float.{smooth_said}
 
 module _ (engine : ℕ → ℕ → ℕ) (old sample : ℕ) where

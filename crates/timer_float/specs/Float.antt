@@ -1,5 +1,5 @@
 -- The Rust's own smoothing, in f64 as IEEE 754 has it, and what a call answers with this engine or another.
-use Rattle.std.specs.Prelude.{ℕ, List, [], ◌∷◌, ltb, pos, Float}
+use Rattle.std.specs.Prelude.{ℕ, [], ◌∷◌, ltb, pos, Float}
 use Rattle.std.specs.Float.{binary64}
 use Rattle.std.specs.Float.Ieee.{of_int, of_bits, add, mul, sub, rem, to_unsigned}
 use Rattle.terms.specs.Refusals.{number_of}

@@ -9,7 +9,7 @@ ghost use Rattle.timer_float.specs.Float.{float_of, smoothed_said, smooth_said};
 use terms::Refusal;
 
 // What smoothing answers.
-#[derive(Drop)]
+#[derive(Clone, Copy)]
 pub enum Smoothed {
     // the new time, in milliseconds
     Time(u64),

@@ -1,0 +1,12 @@
+-- `replay_arrival::nack_numbers` meets its contract: the numbers listed so far, and behind them those that are left, are all. Assumes nothing.
+use Prim.Native.Nat.{◌-◌}
+use native.Mathlib.Omega.{arith}
+use borrow.Author.Rules.{rules}
+use Rattle.replay_arrival.proofs.Ways.{Listed, listed_start, listed_more, listed_end}
+use Rattle.replay_arrival.proofs.nack_numbers.Given as goal
+
+abbrev pub invariant-loop-i : goal.invariant-loop-i
+invariant-loop-i l = Listed l.packet l.initial.numbers l.numbers l.count l.i
+
+abbrev pub decreases-loop-i : goal.decreases-loop-i
+decreases-loop-i l = l.count - l.i
