@@ -8,11 +8,11 @@ use native.Mathlib.Omega.{arith}
 use borrow.Author.Tests.{eq-eqb, ne_eqb}
 use lib.ListN.{length, take, set, length-set}
 use lib.Seq.{take-suc-set, append_snoc}
-use Rattle.terms.specs.Answers.{Said, Saying, refusal, values, said}
+use Rattle.terms.specs.Answers.{Saying, refusal, values, said}
 use Rattle.terms.specs.declared.Answer.{Answer}
 use Rattle.wire.specs.BigEndian.{number_at, numbers_at}
 use Rattle.packet_read.specs.Flags.{bit}
-use Rattle.packet_read.specs.Reading.{read_of, nack_count, options_at, nack_numbers_of, payload_of}
+use Rattle.packet_read.specs.Reading.{read_of, nack_count, payload_of}
 use Rattle.packet_read.specs.declared.Packet.{Packet}
 use Rattle.packet_read.proofs.Looks.{nack_numbers}
 use Rattle.packet_read.proofs.Readable.{readable}

@@ -8,6 +8,7 @@ use borrow.Author.Tests.{eqb-true}
 use lib.Dec.{eqb}
 use lib.ListN.{length}
 use Rattle.terms.proofs.Laws.{and_left, and_right}
+use Rattle.timer.specs.Window.{grown_of}
 use Rattle.timer.specs.Timer.{timing_fits}
 use Rattle.timer.specs.declared.Timing.{Timing}
 use Rattle.timer.proofs.Laws.{sampled_fits, grown_least, grown_most}
@@ -36,7 +37,7 @@ timed-fits measured f timing (n ∷ l) t = timed-fits measured f _ l (f timing n
 
 pub grown_fits : (window : ℕ) (l : List ℕ) → 1 ≤ window → window ≤ 128 → (1 ≤ grown_by window l) × (grown_by window l ≤ 128)
 grown_fits window [] a b = (a, b)
-grown_fits window (n ∷ l) a b = grown_fits _ l (grown_least window a) (grown_most window b)
+grown_fits window (n ∷ l) a b = grown_fits (grown_of window) l (grown_least window a) (grown_most window b)
 
 -- a list with 0 in the places that pass
 module _ (pass : ℕ → Bool) (l : List ℕ) (i : ℕ) (inside : i < length l) where

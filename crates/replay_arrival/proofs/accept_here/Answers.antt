@@ -1,7 +1,6 @@
 -- `replay_arrival::accept_here` meets its contract. Assumes nothing.
 use native.Mathlib.Omega.{arith}
 use Rattle.replay_arrival.proofs.Ways.{accept_none, accept-some}
-use borrow.Author.Rules.{rules}
 use Rattle.replay_arrival.proofs.accept_here.Goals as goal
 
 pub returns-then-number-eq0 : goal.returns-then-number-eq0

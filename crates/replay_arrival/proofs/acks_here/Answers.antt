@@ -1,7 +1,6 @@
 -- `replay_arrival::acks_here` meets its contract. Assumes nothing.
 use mathlib.Core.Path.{sym, ◌∙◌}
 use Prim.Native.Nat.{◌≤◌}
-use native.Mathlib.Omega.{arith}
 use lib.ListN.{length}
 use lib.Seq.{length-take-le}
 use Rattle.replay_arrival.proofs.Ways.{acks_none, acks-some, nacks_inside}

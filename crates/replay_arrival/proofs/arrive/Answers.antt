@@ -3,7 +3,6 @@ use mathlib.Core.Path.{sym, ◌∙◌, ap}
 use Rattle.terms.specs.Refusals.{number_of}
 use Rattle.packet_read.specs.Reading.{said_reading}
 use Rattle.replay_arrival.proofs.Ways.{not-read, was_read}
-use borrow.Author.Rules.{rules}
 use Rattle.replay_arrival.proofs.arrive.Goals as goal
 
 pub acks_here-acked-requires : goal.acks_here-acked-requires

@@ -1,8 +1,6 @@
 -- `replay_arrival::nack_numbers` meets its contract: the numbers listed so far, and behind them those that are left, are all. Assumes nothing.
 use Prim.Native.Nat.{◌-◌}
-use native.Mathlib.Omega.{arith}
-use borrow.Author.Rules.{rules}
-use Rattle.replay_arrival.proofs.Ways.{Listed, listed_start, listed_more, listed_end}
+use Rattle.replay_arrival.proofs.Ways.{Listed}
 use Rattle.replay_arrival.proofs.nack_numbers.Given as goal
 
 abbrev pub invariant-loop-i : goal.invariant-loop-i

@@ -1,7 +1,6 @@
 -- `sender_resend::resend` meets its contract: the judge refuses, or nothing keeps it from being done. Assumes nothing.
 use mathlib.Core.Path.{◌∙◌}
 use Rattle.sender_resend.proofs.Resending.{resend-kept, resend_pass, resend_fair}
-use borrow.Author.Rules.{rules}
 use Rattle.sender_resend.proofs.resend.Goals as goal
 
 pub resend_done-requires : goal.resend_done-requires

@@ -1,6 +1,5 @@
 -- The measure is what is left of the image.
 use Prim.Native.Nat.{◌≤◌, ◌-◌}
-use borrow.Author.Rules.{rules}
 use Rattle.lamps.proofs.image.draw.Given as goal
 
 abbrev pub invariant-loop-i : goal.invariant-loop-i

@@ -1,7 +1,6 @@
 -- The measure is how many of the numbers are left.
 use Prim.Native.Nat.{◌≤◌, ◌-◌, ◌*◌}
 use lib.ListN.{length}
-use borrow.Author.Rules.{rules}
 use Rattle.lamps.proofs.tell.numbers.Given as goal
 
 abbrev pub invariant-loop-i : goal.invariant-loop-i

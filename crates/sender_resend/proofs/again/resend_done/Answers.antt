@@ -20,7 +20,6 @@ use borrow.Author.Rules.{rules}
 use Rattle.sender_resend.proofs.again.resend_done.Goals.{Start}
 use Rattle.sender_resend.proofs.again.resend_done.Goals.{Else-least}
 use Rattle.sender_resend.proofs.again.resend_done.Goals.{After-find_expired-found}
-use Rattle.sender_resend.proofs.again.resend_done.Lts.View.{up-Start}
 use Rattle.sender_resend.proofs.again.resend_done.Goals as goal
 
 row : (c : Start) → length c.args.s.numbers ≡ 192
@@ -41,7 +40,7 @@ neat c = tidy c.args.s (row c) (table c) (width c) (ruled c.args.s c.requires.0)
 -- something is in flight
 some : (c : Else-least) → let a = c.args in 0 < length (in_flight a.s)
 some c =
-    some-flies c.args.s (neat (up-Start _ _ _ c.before.before.before.before.before.before.before.before)) _ c.least.ensures c.if-least.false
+    some-flies c.args.s (neat c.before.before.before.before.before.before.before) _ c.least.ensures c.if-least.false
 
 found : (c : After-find_expired-found) → let a = c.args in
     Expires a.s.numbers a.s.sent a.s.marks a.s.next.0 a.clock (rto_of a.s.timing) a.s.window c.find_expired-found.result
