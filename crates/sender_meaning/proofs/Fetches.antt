@@ -10,7 +10,6 @@ use borrow.Author.Tests.{le-leb, leb-false}
 use lib.Dec.{leb, ltb}
 use lib.ListN.{length}
 use Rattle.terms.specs.Ladder.{◌when◌else◌}
-use Rattle.terms.specs.Lists.{◌at_front_of◌}
 use Rattle.terms.proofs.Laws.{case, past}
 use Rattle.terms.specs.Answers.{refusal, values}
 use Rattle.sender_state.specs.Table.{◌!◌, place_of}
@@ -19,7 +18,7 @@ use Rattle.sender_state.specs.declared.Sender.{Sender}
 use Rattle.sender_state.specs.Numbers.{in_flight, size_of, stored_packet}
 use Rattle.sender_send.specs.Fetch.{fetch_said, fetch_of}
 use Rattle.sender_send.proofs.Ranks.{Ranked, ranked_of}
-use Rattle.sender_meaning.specs.Meaning.{flies, standing, Sound}
+use Rattle.sender_meaning.specs.Meaning.{standing, Sound}
 use Rattle.sender_meaning.specs.Steps.{is_fair}
 use Rattle.sender_meaning.specs.Changes.{Fetched}
 use Rattle.sender_meaning.proofs.Counts.{fair_rung}

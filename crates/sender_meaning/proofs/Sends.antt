@@ -26,7 +26,7 @@ use Rattle.sender_send.specs.Send.{send_said, armed, departed, send_of}
 use Rattle.sender_state.proofs.Runs.{run_passes, run-below}
 use Rattle.sender_send.proofs.Outcomes.{Leaves, leaves, send-refused, send_done}
 use Rattle.sender_send.proofs.Ranks.{Ranked, ranked_of}
-use Rattle.sender_meaning.specs.Meaning.{waits, standing, does_wait, Sound}
+use Rattle.sender_meaning.specs.Meaning.{standing, does_wait, Sound}
 use Rattle.sender_meaning.specs.Steps.{is_fair, sent_as}
 use Rattle.sender_meaning.specs.Changes.{Departs}
 use Rattle.sender_meaning.proofs.Counts.{none_in, fair_rung, run-lowest}

@@ -8,14 +8,12 @@ use borrow.Author.Tests.{le-leb, lt-ltb}
 use lib.ListN.{length}
 use Rattle.terms.specs.declared.StreamId.{StreamId}
 use Rattle.terms.proofs.Laws.{rung}
-use Rattle.wire.specs.BigEndian.{numbers_at}
 use Rattle.packet_read.specs.Flags.{bit}
-use Rattle.packet_read.specs.Reading.{nack_count, read_of, fields_of, payload_of}
 use Rattle.terms.specs.Answers.{values}
 use Rattle.receiver_state.specs.Rules.{rules_of}
 use Rattle.receiver_state.specs.declared.Receiver.{Receiver}
 use Rattle.receiver_ack.specs.Missing.{missing_from}
-use Rattle.receiver_ack.specs.Fields.{at_least255, fields_from, ack_fields_of, ack_nacks_of, ack_through_of}
+use Rattle.receiver_ack.specs.Fields.{at_least255, fields_from, ack_fields_of}
 use Rattle.receiver_ack.proofs.Carried.{acked_reads, through_read}
 use Rattle.sender_state.specs.declared.Sender.{Sender}
 use Rattle.sender_submit.specs.Chunks.{data_packet}

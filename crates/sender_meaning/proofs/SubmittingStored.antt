@@ -9,7 +9,7 @@ use native.Mathlib.Decide.{ℕ_discrete, dec_lt}
 use native.Mathlib.Omega.{arith}
 use borrow.Author.Tests.{le-leb, lt-leb, lt-ltb, le-ltb}
 use lib.Dec.{leb, ltb}
-use lib.ListN.{length, get_or, take, drop, length-take}
+use lib.ListN.{length, take, drop, length-take}
 use Rattle.terms.proofs.Laws.{case}
 use Rattle.sender_state.specs.Table.{place_of}
 use Rattle.sender_state.specs.declared.Sender.{Sender}

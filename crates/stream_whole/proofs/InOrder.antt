@@ -1,7 +1,7 @@
 -- What was taken is the beginning of what was submitted: the takes gave the numbers in their order, each with the bytes submitted under it. Assumes nothing.
 use Prim.Native.Nat.{ℕ, ◌+◌, ◌-◌, ◌≤◌, ◌<◌}
 use mathlib.Core.Path.{◌≡◌, refl, sym, ◌∙◌, ap}
-use mathlib.Core.Bool.{true, false, true≢false}
+use mathlib.Core.Bool.{false, true≢false}
 use mathlib.Core.List.{List, ◌++◌}
 use mathlib.Core.Option.{some}
 use native.Mathlib.Decide.{dec_le}
