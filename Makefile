@@ -7,7 +7,7 @@ WHO ?= drive
 TOPICS := sender model timer smooth write read serial receive ack vectors slips
 AT_ONCE := --no-print-directory --jobs=2 --output-sync
 
-.PHONY: demo test links oracle proved host stored lamps joined cuts compare expected soak wrong
+.PHONY: demo test links oracle proved host hosts stored lamps joined cuts compare expected soak wrong
 
 # The story of the lamps: the same packets, given to our receiver and to the Rust's.
 demo:
@@ -17,11 +17,12 @@ demo:
 	@echo '== The Rust as given, the same packets =='
 	@target/oracle/oracle lamps
 
-# The tests. `rt ci` starts from nothing, proves every crate, tries the wrong programs and runs the programs. What it proved is then linked into hosts in C and
-# asked every script of the comparison, two at a time. The last line is the verdict of `rt ci`, which comes only where everything held.
+# The tests. `rt ci` proves every crate, tries the wrong programs and runs the programs, which it leaves in crates/NAME/out/; what an earlier run on this machine
+# passed, of the same files, it does not prove again. The static library, which it only proves, is then linked into hosts in C, and `drive` is asked every script of
+# the comparison, two at a time. The last line is the verdict of `rt ci`, which comes only where everything held.
 test: links
 	@tools/told ci
-	@$(MAKE) $(AT_ONCE) oracle host
+	@$(MAKE) $(AT_ONCE) oracle hosts
 	@$(MAKE) $(AT_ONCE) $(TOPICS:%=compare-%) stored lamps joined cuts
 	@cat target/verdict
 
@@ -39,6 +40,10 @@ proved:
 
 # Hosts in C over the static library.
 host: proved
+	@tools/host
+
+# The same, where `rt ci` has just left `drive`.
+hosts:
 	@tools/host
 
 # A topic of the comparison (oracle/NOTES.md).
