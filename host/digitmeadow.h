@@ -1,4 +1,4 @@
-/* The receiving half of an I2P stream, for hosts: libhost_library.a, made by `rt staticlib host_library`, for Linux on x86-64.
+/* The receiving half of an I2P stream, for hosts: libhost_library.a, made by `rt lib` in crates/host_library, for Linux on x86-64.
  *
  * Every call is total: whatever the bytes, numbers and states, it ends, reads and writes only what it was lent, and answers. No call
  * keeps a pointer, allocates, waits or locks. What each does is proved; the definitions are in crates/host_numbers/specs and those that they name.
