@@ -1,13 +1,14 @@
 -- The two engines agree on every pair of times below 2 ^ 32: every number on the way is an eighth of a whole number below 2 ^ 35, so nothing is rounded. Assumes nothing.
-use mathlib.Core.Path.{◌≡◌, refl, sym, ap, ◌∙◌, subst}
-use Prim.Native.Nat.{ℕ, ◌+◌, ◌-◌, ◌*◌, ◌/◌, ◌%◌, ◌^◌, ◌<◌}
-use native.Mathlib.Nat.{mul_assoc, one-mul, lt_of_lt_of_le, lt_of_le_of_lt, le_of_lt, mul-le-mul, mod-le}
+use mathlib.Core.Path.{◌≡◌, refl, sym, ap, ap₂, ◌∙◌, subst}
+use Prim.Native.Nat.{ℕ, min, ◌+◌, ◌-◌, ◌*◌, ◌/◌, ◌%◌, ◌^◌, ◌<◌}
+use native.Mathlib.Nat.{mul_assoc, mul_comm, mul-div-mul_right, one-mul, lt_of_lt_of_le, lt_of_le_of_lt, le_of_lt, mul-le-mul, mod-le}
 use native.Mathlib.Omega.{arith}
-use mathlib.Core.Bool.{false}
+use mathlib.Core.Bool.{true, false, true≢false}
 use lib.IntN.{pos, negsuc}
 use lib.Dec.{T, le→leb, lit≤, lit<}
 use lib.Pow.{pow_mono, shl_lt}
-use lib.Ieee.{Float, fin, binary64, round, of_bits, of_int, mul, rem, to_unsigned, in_unsigned, in_float}
+use lib.Ieee.{Float, nan, inf, fin, up, down, binary64, round, of_bits, of_int, mul, rem, to_unsigned, in_unsigned, in_float}
+use lib.Ieee.Fits.{down_pos}
 use lib.Ieee.Exact.{HasValue, round_exact}
 use lib.Ieee.Scale.{round_same}
 use lib.Ieee.Back.{round_whole, unsigned_back}
@@ -89,6 +90,20 @@ cut_is x v h k =
     whole : (v : ℕ) → (v - v % 8) * 1 ≡ v / 8 * 8
     whole v = omega arith
 
+-- ---- a cast cuts: what Rust's `as u64` makes of an eighth of a whole number
+quotient : (a d v : ℕ) → 0 < d → a * 8 ≡ v * d → a / d ≡ v / 8
+quotient a d v h e = sym (mul-div-mul_right {m = 8} a d (lit< tt)) ∙ ap₂ (λ (x y : ℕ). x / y) e (mul_comm d 8) ∙ mul-div-mul_right {m = d} v 8 h
+
+cast_cuts : (x : Float) (v : ℕ) → v < 2 ^ 53 → HasValue x false v 8 → to_unsigned 64 x ≡ v / 8
+unfolding to_unsigned
+cast_cuts nan v h k = absurd k
+cast_cuts (inf s) v h k = absurd k
+cast_cuts (fin true m e) v h k = absurd (true≢false k.0)
+cast_cuts (fin false m e) v h k = rw (quotient (m * up e) (down e) v (down_pos e) k.1) (min_small v h)
+  where
+    min_small : (v : ℕ) → v < 2 ^ 53 → min (v / 8) (2 ^ 64 - 1) ≡ v / 8
+    min_small v h = omega arith
+
 module _ (old sample : ℕ) (o : old < 4294967296) (s : sample < 4294967296) where
   cut_mix : cut_of (mix_of old sample) ≡ of_int binary64 (pos ((7 * old + sample) / 8))
   cut_mix = cut_is (mix_of old sample) (7 * old + sample) (omega arith) (mix_value old sample o s)
@@ -96,9 +111,14 @@ module _ (old sample : ℕ) (o : old < 4294967296) (s : sample < 4294967296) whe
   back : T (in_unsigned binary64 64 (of_int binary64 (pos ((7 * old + sample) / 8)))) × (to_unsigned 64 (of_int binary64 (pos ((7 * old + sample) / 8))) ≡ (7 * old + sample) / 8)
   back = unsigned_back binary64 64 ((7 * old + sample) / 8) (time_fits ((7 * old + sample) / 8) (omega arith)) (omega arith)
 
-  -- what is left is a whole number that a u64 holds: the cast loses nothing
+  -- what is left is a whole number that a u64 holds: a cast of it loses nothing
   pub cast_fits : T (in_unsigned binary64 64 (cut_of (mix_of old sample)))
   cast_fits = subst (λ (x : Float). T (in_unsigned binary64 64 x)) (sym cut_mix) back.0
+
+  -- the cast cuts the mix as the definition does
+  pub cast_is : to_unsigned 64 (mix_of old sample) ≡ float_of old sample
+  unfolding float_of
+  cast_is = cast_cuts (mix_of old sample) (7 * old + sample) (omega arith) (mix_value old sample o s) ∙ sym (ap (to_unsigned 64) cut_mix ∙ back.1)
 
   pub agree : float_of old sample ≡ smoothed_of old sample
   unfolding float_of

@@ -6,6 +6,7 @@ ghost use Rattle.std.specs.Prelude.{◌≡◌, ◌<◌};
 ghost use Rattle.timer.specs.Timer.{smoothed_of};
 ghost use Rattle.timer_float.specs.Float.{float_of, smoothed_said, smooth_said};
 
+use std::num::saturating_f64_to_u64;
 use terms::Refusal;
 
 // What smoothing answers.
@@ -16,14 +17,13 @@ pub enum Smoothed {
     Refused(Refusal),
 }
 
-// Cutting down is worked out: what is left of the remainder by 1.0 is whole, and the cast loses nothing.
+// Cuts down as Rust's `as` does. The remainder by 1.0, of which the definition speaks, is no operation of the processor, but a call of C's `fmod`.
 fn float(old: u64, sample: u64) -> u64
     requires { (old < 4294967296) × (sample < 4294967296) }
     ensures { (result ≡ float_of old sample) × (result ≡ smoothed_of old sample) }
 {
     let x = 0.875 * (old as f64) + 0.125 * (sample as f64);
-    let part = x % 1.0;
-    (x - part) as u64
+    saturating_f64_to_u64(x)
 }
 
 // The new smoothed time, of the old one and a sample. A larger time than 4,294,967,295 is refused, the old one and the sample alike. The promise says it twice: it
