@@ -17,12 +17,12 @@ use Rattle.packet_read.specs.Destination.{Whole}
 use Rattle.packet_read.specs.declared.Found.{Found}
 use Rattle.packet_read.specs.declared.Packet.{Packet}
 use Rattle.packet_read.specs.declared.Span.{Span}
-use Rattle.packet_read.proofs.Form.{size-inside}
+use Rattle.packet_read.proofs.Form.{size_inside}
 use Rattle.packet_parts.specs.Laid.{span_end, Laid}
 
 -- the length of a part is the span's
-pub spanned-length : (p : List ℕ) (s : Span) → span_end s ≤ length p → length (spanned p s) ≡ s.len
-spanned-length p s h = simp (length-take, length-drop) (omega arith)
+pub spanned_length : (p : List ℕ) (s : Span) → span_end s ≤ length p → length (spanned p s) ≡ s.len
+spanned_length p s h = simp (length-take, length-drop) (omega arith)
 
 -- the same of an answer, and of what the option area holds: records, so that a ladder is gone down rung by rung
 record LaidSaid (p : List ℕ) (s : Saying Packet) : Type 0 where
@@ -53,7 +53,7 @@ module _ (p : List ℕ) (fits : options_end p ≤ length p) where
   followed : (w : Saying Whole) → w ≡ destination_there p (options_at p) (options_end p) (flags_of p) → destination_begins (options_at p) (flags_of p) ≤ options_end p
       → LaidOptions p (w and_then after_destination p (options_at p) (options_end p) (flags_of p))
   followed (refusal n) e h = none p n
-  followed (values d) e h = after d (size-inside p (destination_begins (options_at p) (flags_of p)) (options_end p) d (bit 5 (flags_of p)) h (sym e))
+  followed (values d) e h = after d (size_inside p (destination_begins (options_at p) (flags_of p)) (options_end p) d (bit 5 (flags_of p)) h (sym e))
 
   optioned : LaidOptions p (options_in p (options_at p) (options_end p) (flags_of p))
   unfolding options_in

@@ -5,7 +5,7 @@ use mathlib.Core.Bool.{Bool}
 use mathlib.Core.List.{List}
 use native.Mathlib.Omega.{arith}
 use Rattle.terms.specs.Ladder.{◌when◌else◌}
-use Rattle.terms.proofs.Numbers.{number-one}
+use Rattle.terms.proofs.Numbers.{number_one}
 use Rattle.terms.proofs.Determined.{determined}
 use Rattle.packet_read.specs.Destination.{signs_of}
 use Rattle.packet_read.specs.Reading.{said_reading, read_of}
@@ -14,7 +14,7 @@ use Rattle.packet_read.specs.declared.Reading.TheVariants as R
 
 -- two answers that say the same are the same
 pub reading_one : (a b : Reading) → said_reading a ≡ said_reading b → a ≡ b
-reading_one (R.Refused q) (R.Refused r) e = ap R.Refused (number-one q r (cc))
+reading_one (R.Refused q) (R.Refused r) e = ap R.Refused (number_one q r (cc))
 reading_one (R.Refused q) (R.Read p) e = let z : ◌≡◌ {A = ℕ} 0 1 = cc in absurd (omega arith)
 reading_one (R.Read p) (R.Refused r) e = let z : ◌≡◌ {A = ℕ} 0 1 = cc in absurd (omega arith)
 reading_one (R.Read p) (R.Read q) e = ap R.Read (cc)

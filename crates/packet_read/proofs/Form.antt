@@ -16,7 +16,7 @@ use Rattle.packet_read.specs.Options.{no_destination}
 pub record Form (p : List ℕ) (at end : ℕ) (d : Whole) : Type 0 where
   pub form_fits_lem : form_fits (certificate_type p at) (certificate_length p at) ≡ true
   pub fits : at + d.size ≤ end
-  pub key_fits : key_fits (signing_type p at) (certificate_length p at) ≡ true
+  pub key_fits_lem : key_fits (signing_type p at) (certificate_length p at) ≡ true
   pub is : d ≡ record { size = 387 + certificate_length p at; signs = signature_length (signing_type p at) }
 
 pub whole_form : (p : List ℕ) (at end : ℕ) (d : Whole) → destination_in p at end ≡ values d → Form p at end d
@@ -32,7 +32,7 @@ whole_form p at end d h =
     record {
       form_fits_lem = not-false _ b.0;
       fits = omega (arith, long, ltb-false end (at + (387 + l)) c.0);
-      key_fits = not-false _ e.0;
+      key_fits_lem = not-false _ e.0;
       is = sym s;
     }
 
@@ -45,19 +45,19 @@ form_long c l h five =
     leb-true 4 l (and_right (eqb c 5) (leb 4 l) t)
 
 -- its signatures have some length
-pub signs-some : (p : List ℕ) (at end : ℕ) (d : Whole) → Form p at end d → d.signs ≡ 0 → ⊥
-signs-some p at end d f e =
+pub signs_some : (p : List ℕ) (at end : ℕ) (d : Whole) → Form p at end d → d.signs ≡ 0 → ⊥
+signs_some p at end d f e =
     let n = signature_length (signing_type p at) in
     let z : n ≡ 0 = sym (ap (λ (x : Whole). x.signs) f.is) ∙ e in
-    let l : not (eqb n 0) ≡ true = and_left (is_listed (signing_type p at)) (not (eqb (signing_type p at) 3) || leb 8 (certificate_length p at)) f.key_fits in
+    let l : not (eqb n 0) ≡ true = and_left (is_listed (signing_type p at)) (not (eqb (signing_type p at) 3) || leb 8 (certificate_length p at)) f.key_fits_lem in
     let t : false ≡ true = rw (eq-eqb n 0 z) at l in
     let o : ◌≡◌ {A = ℕ} 0 1 = cc in
     omega arith
 
 -- with the bit clear it is absent, and lies inside its area too
-pub size-inside : (p : List ℕ) (at end : ℕ) (d : Whole) (from : Bool) → at ≤ end → (destination_in p at end when from else values no_destination) ≡ values d → at + d.size ≤ end
-size-inside p at end d true o h = (whole_form p at end d h).fits
-size-inside p at end d false o h =
+pub size_inside : (p : List ℕ) (at end : ℕ) (d : Whole) (from : Bool) → at ≤ end → (destination_in p at end when from else values no_destination) ≡ values d → at + d.size ≤ end
+size_inside p at end d true o h = (whole_form p at end d h).fits
+size_inside p at end d false o h =
     let s : no_destination ≡ d = cc h in
     let z : 0 ≡ d.size = ap (λ (x : Whole). x.size) s in
     omega arith

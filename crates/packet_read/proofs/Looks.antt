@@ -13,7 +13,7 @@ use lib.Seq.{take-nil, take-take, take_all, take_at, length-take-le}
 use Rattle.terms.specs.Answers.{Saying, refusal, values}
 use Rattle.terms.specs.Ladder.{◌when◌else◌}
 use Rattle.wire.specs.BigEndian.{spelled, number_at, numbers_at}
-use Rattle.wire.proofs.RoundTrip.{numbers-moved}
+use Rattle.wire.proofs.RoundTrip.{numbers_moved}
 use Rattle.packet_read.specs.Going.{◌and_then◌}
 use Rattle.packet_read.specs.Flags.{bit}
 use Rattle.packet_keys.specs.Kinds.{signature_length}
@@ -32,15 +32,15 @@ same_rung : {A : Type 0} (x : A) {y z : A} (s t : Bool) → s ≡ t → (s ≡ f
 same_rung x true t e f = rw (← e)
 same_rung x false t e f = rw (← e) (f refl)
 
-drop-take : (i m : ℕ) (l : List ℕ) → drop i (take (i + m) l) ≡ take m (drop i l)
-drop-take zero m l = rw zero-add
-drop-take (suc i) m [] = rw (suc-add i m) (sym (take-nil m))
-drop-take (suc i) m (x ∷ l) = rw (suc-add i m) (drop-take i m l)
+drop_take : (i m : ℕ) (l : List ℕ) → drop i (take (i + m) l) ≡ take m (drop i l)
+drop_take zero m l = rw zero-add
+drop_take (suc i) m [] = rw (suc-add i m) (sym (take-nil m))
+drop_take (suc i) m (x ∷ l) = rw (suc-add i m) (drop_take i m l)
 
-number-within : (k i end : ℕ) (p : List ℕ) → i + k ≤ end → number_at k i (take end p) ≡ number_at k i p
-number-within k i end p h =
+number_within : (k i end : ℕ) (p : List ℕ) → i + k ≤ end → number_at k i (take end p) ≡ number_at k i p
+number_within k i end p h =
     let e : end ≡ i + (end - i) = omega arith in
-    ap spelled (ap (λ (n : ℕ). take k (drop i (take n p))) e ∙ ap (take k) (drop-take i (end - i) p) ∙ take-take k (end - i) (drop i p) (omega arith))
+    ap spelled (ap (λ (n : ℕ). take k (drop i (take n p))) e ∙ ap (take k) (drop_take i (end - i) p) ∙ take-take k (end - i) (drop i p) (omega arith))
 
 -- p and q agree at each number that lies before `end`
 module _ (p q : List ℕ) (end : ℕ) (same : (k i : ℕ) → i + k ≤ end → number_at k i p ≡ number_at k i q) where
@@ -63,7 +63,7 @@ module _ (p q : List ℕ) (end : ℕ) (same : (k i : ℕ) → i + k ≤ end → 
       same_rung _ (not (key_fits (signing_type p at) (certificate_length p at))) (not (key_fits (signing_type q at) (certificate_length q at))) (λ i. not (key_fits (key i) (size i))) λ _.
       λ i. values (record { size = 387 + size i; signs = signature_length (key i) })
 
-  module _ (at flags : ℕ) (delay-fits : destination_begins at flags ≤ end) where
+  module _ (at flags : ℕ) (delay_fits : destination_begins at flags ≤ end) where
     after_alike : (d : Whole) → after_destination p at end flags d ≡ after_destination q at end flags d
     unfolding after_destination
     after_alike d =
@@ -72,7 +72,7 @@ module _ (p q : List ℕ) (end : ℕ) (same : (k i : ℕ) → i + k ≤ end → 
         same_rung _ (bit 11 flags && bit 5 flags) (bit 11 flags && bit 5 flags) refl λ _.
         same_rung _ (ltb end (signature_at at flags d.size + signature_size p at end flags d)) (ltb end (signature_at at flags d.size + signature_size q at end flags d)) refl λ _.
         let inside = ltb-false end (signature_at at flags d.size) a in
-        let y : (number_at 2 at p when bit 6 flags else 0) ≡ (number_at 2 at q when bit 6 flags else 0) = same_if 0 (bit 6 flags) (λ b. same 2 at (rw b at delay-fits)) in
+        let y : (number_at 2 at p when bit 6 flags else 0) ≡ (number_at 2 at q when bit 6 flags else 0) = same_if 0 (bit 6 flags) (λ b. same 2 at (rw b at delay_fits)) in
         let m : (number_at 2 (max_at at flags d.size) p when bit 7 flags else 0) ≡ (number_at 2 (max_at at flags d.size) q when bit 7 flags else 0) =
         same_if 0 (bit 7 flags) (λ b. same 2 (max_at at flags d.size) (rw b at inside)) in
         rw (y, m)
@@ -102,7 +102,7 @@ pub reads_alike : (p q : List ℕ) → length p ≡ length q → take (options_e
 unfolding read_of
 reads_alike p q l e =
     let same : (k i : ℕ) → i + k ≤ options_end p → number_at k i p ≡ number_at k i q =
-    λ k i h. sym (number-within k i (options_end p) p h) ∙ ap (number_at k i) e ∙ number-within k i (options_end p) q h in
+    λ k i h. sym (number_within k i (options_end p) p h) ∙ ap (number_at k i) e ∙ number_within k i (options_end p) q h in
     let en : nack_count p ≡ nack_count q = same 1 16 (omega arith) in
     let eo : number_at 2 (20 + 4 * nack_count p) p ≡ number_at 2 (20 + 4 * nack_count q) q =
     same 2 (20 + 4 * nack_count p) (omega arith) ∙ ap (λ (n : ℕ). number_at 2 (20 + 4 * n) q) en in
@@ -147,4 +147,4 @@ nack_numbers p v h =
     let e : 4 * n / 4 ≡ n = omega arith in
     let is : nacks_of p ≡ take (4 * n) (drop 17 p) = rw (ap fields_in h ∙ r.is) in
     let long : length (take (4 * n) (drop 17 p)) ≡ 4 * n = length-take-le (4 * n) (drop 17 p) (simp length-drop (omega (arith, r.nacks_fit))) in
-    rw (is, long, e) (sym (numbers-moved 4 n 0 17 p (take (4 * n) (drop 17 p)) (drop (4 * n) (drop 17 p)) (sym (take-append-drop (4 * n) (drop 17 p))) (omega (arith, long))))
+    rw (is, long, e) (sym (numbers_moved 4 n 0 17 p (take (4 * n) (drop 17 p)) (drop (4 * n) (drop 17 p)) (sym (take-append-drop (4 * n) (drop 17 p))) (omega (arith, long))))

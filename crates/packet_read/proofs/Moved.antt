@@ -10,10 +10,10 @@ use lib.Dec.{eqb}
 use lib.ListN.{length, drop}
 use Rattle.terms.specs.Answers.{Saying, refusal, values}
 use Rattle.terms.specs.Ladder.{◌when◌else◌}
-use Rattle.wire.proofs.RoundTrip.{number-moved}
+use Rattle.wire.proofs.RoundTrip.{number_moved}
 use Rattle.packet_keys.specs.Kinds.{signature_length}
 use Rattle.packet_read.specs.Destination.{certificate_type, certificate_length, key_type, signing_type, form_fits, key_fits, Whole, destination_in, signs_filling, signs_of, is_destination}
-use Rattle.packet_read.proofs.Form.{Form, whole_form, form_long, signs-some}
+use Rattle.packet_read.proofs.Form.{Form, whole_form, form_long, signs_some}
 use Rattle.packet_read.proofs.Ways.{whole, same_if}
 
 pub form_whole : (p : List ℕ) (at end : ℕ) (d : Whole) → Form p at end d → destination_in p at end ≡ values d
@@ -21,7 +21,7 @@ form_whole p at end d f =
     let long = ap (λ (x : Whole). x.size) f.is in
     sym
     (whole p at end (omega arith) (omega arith) (certificate_type p at) refl (certificate_length p at) refl f.form_fits_lem (omega arith)
-    (signing_type p at) refl f.key_fits (signature_length (signing_type p at)) refl)
+    (signing_type p at) refl f.key_fits_lem (signature_length (signing_type p at)) refl)
     ∙ ap values (sym f.is)
 
 -- exactly one destination, whose signatures have s bytes
@@ -48,7 +48,7 @@ pub signs_as : (d : List ℕ) (s : ℕ) → destination_in d 0 (length d) ≡ va
 unfolding signs_of
 signs_as d s h =
     let e : signs_of d ≡ s = rw (h, eq-eqb (length d) (length d) refl) in
-    let n : s ≡ 0 → ⊥ = signs-some d 0 (length d) (record { size = length d; signs = s }) (whole_form d 0 (length d) _ h) in
+    let n : s ≡ 0 → ⊥ = signs_some d 0 (length d) (record { size = length d; signs = s }) (whole_form d 0 (length d) _ h) in
     (e, rw (e, ne_eqb s 0 n))
 
 form_alike : {c e l m : ℕ} → c ≡ e → l ≡ m → form_fits e m ≡ true → form_fits c l ≡ true
@@ -67,37 +67,37 @@ module _ (p d r : List ℕ) (a end : ℕ) (stands : drop a p ≡ d ++ r) where
 
   moved : 387 + certificate_length d 0 ≤ length d → form_fits (certificate_type d 0) (certificate_length d 0) ≡ true → Moved
   moved h f =
-      let t : certificate_type p a ≡ certificate_type d 0 = number-moved 1 384 a p d r stands (omega arith) in
+      let t : certificate_type p a ≡ certificate_type d 0 = number_moved 1 384 a p d r stands (omega arith) in
       record {
         type_moved = t;
-        length_moved = number-moved 2 385 a p d r stands (omega arith);
+        length_moved = number_moved 2 385 a p d r stands (omega arith);
         signing_moved =
             ap (λ (n : ℕ). key_type p a when eqb n 5 else 0) t
-            ∙ same_if 0 (eqb (certificate_type d 0) 5) (λ five. number-moved 2 387 a p d r stands (omega (arith, form_long (certificate_type d 0) (certificate_length d 0) f five)));
+            ∙ same_if 0 (eqb (certificate_type d 0) 5) (λ five. number_moved 2 387 a p d r stands (omega (arith, form_long (certificate_type d 0) (certificate_length d 0) f five)));
       }
 
   form_inside : (s : ℕ) → a + length d ≤ end → Form d 0 (length d) (record { size = length d; signs = s }) → Form p a end (record { size = length d; signs = s })
   form_inside s h f =
       let m = moved (omega (arith, ap (λ (x : Whole). x.size) f.is)) f.form_fits_lem in
-      let g = fits_alike m.type_moved m.length_moved m.signing_moved f.form_fits_lem f.key_fits in
+      let g = fits_alike m.type_moved m.length_moved m.signing_moved f.form_fits_lem f.key_fits_lem in
       record {
         form_fits_lem = g.0;
         fits = h;
-        key_fits = g.1;
+        key_fits_lem = g.1;
         is = f.is ∙ sym (λ i. record { size = 387 + m.length_moved i; signs = signature_length (m.signing_moved i) });
       }
 
   form_outside : (s : ℕ) → Form p a end (record { size = length d; signs = s }) → Form d 0 (length d) (record { size = length d; signs = s })
   form_outside s f =
       let long : length d ≡ 387 + certificate_length p a = ap (λ (x : Whole). x.size) f.is in
-      let t : certificate_type p a ≡ certificate_type d 0 = number-moved 1 384 a p d r stands (omega arith) in
-      let l : certificate_length p a ≡ certificate_length d 0 = number-moved 2 385 a p d r stands (omega arith) in
+      let t : certificate_type p a ≡ certificate_type d 0 = number_moved 1 384 a p d r stands (omega arith) in
+      let l : certificate_length p a ≡ certificate_length d 0 = number_moved 2 385 a p d r stands (omega arith) in
       let m = moved (omega arith) (form_alike (sym t) (sym l) f.form_fits_lem) in
-      let g = fits_alike (sym t) (sym l) (sym m.signing_moved) f.form_fits_lem f.key_fits in
+      let g = fits_alike (sym t) (sym l) (sym m.signing_moved) f.form_fits_lem f.key_fits_lem in
       record {
         form_fits_lem = g.0;
         fits = omega arith;
-        key_fits = g.1;
+        key_fits_lem = g.1;
         is = f.is ∙ λ i. record { size = 387 + l i; signs = signature_length (m.signing_moved i) };
       }
 

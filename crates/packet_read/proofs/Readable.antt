@@ -20,9 +20,9 @@ use Rattle.packet_read.specs.declared.Packet.{Packet}
 
 -- behind the destination d, the option area from `at` to `end` holds what is flagged
 pub record Held (p : List ℕ) (at end flags : ℕ) (d : Whole) : Type 0 where
-  pub delay-fits : destination_begins at flags ≤ end
+  pub delay_fits : destination_begins at flags ≤ end
   pub there : destination_there p at end flags ≡ values d
-  pub max-fits : signature_at at flags d.size ≤ end
+  pub max_fits : signature_at at flags d.size ≤ end
   pub online : bit 11 flags ≡ false
   pub signature_fits : signature_at at flags d.size + signature_size p at end flags d ≤ end
 
@@ -58,9 +58,9 @@ module _ (p : List ℕ) (at end flags : ℕ) where
       record {
         d = d;
         held = record {
-          delay-fits = delay;
+          delay_fits = delay;
           there = there;
-          max-fits = ltb-false _ _ a.0;
+          max_fits = ltb-false _ _ a.0;
           online = both_false (bit 11 flags) (bit 5 flags) b.0 c.0;
           signature_fits = ltb-false _ _ e.0;
         };

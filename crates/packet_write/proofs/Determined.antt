@@ -4,7 +4,7 @@ use mathlib.Core.Path.{◌≡◌, ap}
 use mathlib.Core.List.{List}
 use native.Mathlib.Omega.{arith}
 use lib.ListN.{length}
-use Rattle.terms.proofs.Numbers.{number-one}
+use Rattle.terms.proofs.Numbers.{number_one}
 use Rattle.terms.proofs.Determined.{determined}
 use Rattle.packet_write.specs.Writing.{Written, said_writing, write_of, output_after}
 use Rattle.packet_write.specs.declared.Fields.{Fields}
@@ -13,13 +13,13 @@ use Rattle.packet_write.specs.declared.Writing.TheVariants as W
 
 -- two answers that say the same are the same
 pub writing_one : (a b : Writing) → said_writing a ≡ said_writing b → a ≡ b
-writing_one (W.Refused q) (W.Refused r) e = ap W.Refused (number-one q r (cc))
+writing_one (W.Refused q) (W.Refused r) e = ap W.Refused (number_one q r (cc))
 writing_one (W.Refused q) (W.Written m j) e = let z : ◌≡◌ {A = ℕ} 0 1 = cc in absurd (omega arith)
 writing_one (W.Written n i) (W.Refused r) e = let z : ◌≡◌ {A = ℕ} 0 1 = cc in absurd (omega arith)
 writing_one (W.Written n i) (W.Written m j) e =
-    let w : ◌≡◌ {A = Written} (record { length-is = n; signature_at = i }) (record { length-is = m; signature_at = j }) = cc in
-    let l : n ≡ m = ap (λ (x : Written). x.length-is) w in
-    let p : i ≡ j = ap (λ (x : Written). x.signature_at) w in
+    let w : ◌≡◌ {A = Written} (record { length_is = n; signature_begins = i }) (record { length_is = m; signature_begins = j }) = cc in
+    let l : n ≡ m = ap (λ (x : Written). x.length_is) w in
+    let p : i ≡ j = ap (λ (x : Written). x.signature_begins) w in
     cc
 
 pub judge_determined : (f : Fields) (nacks destination signature payload : List ℕ) (room : ℕ) (a b : Writing)

@@ -8,16 +8,16 @@ use lib.ListN.{length, length-append}
 use Rattle.terms.specs.Ladder.{◌when◌else◌}
 use Rattle.terms.specs.Lists.{joined}
 use Rattle.wire.specs.BigEndian.{bytes_of, bytes_of_each}
-use Rattle.wire.proofs.Laws.{length-each}
+use Rattle.wire.proofs.Laws.{length_each}
 use Rattle.packet_read.specs.Flags.{bit}
 use Rattle.packet_write.specs.Writing.{head_parts, option_parts, packet_bytes, if_there}
 use Rattle.packet_write.specs.declared.Fields.{Fields}
 
-pub head-joined : (f : Fields) (nacks : List ℕ) (options : ℕ)
+pub head_joined : (f : Fields) (nacks : List ℕ) (options : ℕ)
     → (bytes_of 4 f.send_stream_id.0 ++ bytes_of 4 f.recv_stream_id.0) ++ (bytes_of 4 f.seq_nro.0 ++ bytes_of 4 f.ack_through.0)
     ++ (bytes_of 1 (length nacks) ++ bytes_of_each 4 nacks) ++ (bytes_of 1 f.resend_delay ++ bytes_of 2 f.flags ++ bytes_of 2 options)
     ≡ joined (head_parts f nacks options)
-head-joined f nacks options = simp append_assoc
+head_joined f nacks options = simp append_assoc
 
 pub options_joined : (f : Fields) (destination signature : List ℕ)
     → if_there (bit 6 f.flags) f.delay ++ destination ++ if_there (bit 7 f.flags) f.max_size ++ signature ≡ joined (option_parts f destination signature)
@@ -32,34 +32,34 @@ pub length_options : (f : Fields) (destination signature : List ℕ)
 length_options f destination signature =
     rw (← options_joined f destination signature, length-append, length-append, length-append, length_if (bit 6 f.flags) f.delay, length_if (bit 7 f.flags) f.max_size)
 
-pub length-head : (f : Fields) (nacks : List ℕ) (options : ℕ) → length (joined (head_parts f nacks options)) ≡ 22 + 4 * length nacks
-length-head f nacks options = simp (length-append, length-each) (omega arith)
+pub length_head : (f : Fields) (nacks : List ℕ) (options : ℕ) → length (joined (head_parts f nacks options)) ≡ 22 + 4 * length nacks
+length_head f nacks options = simp (length-append, length_each) (omega arith)
 
 -- the parts ls, each behind the last, and r behind them
 abbrev pub behind : List (List ℕ) → List ℕ → List ℕ
 behind [] r = r
 behind (l ∷ ls) r = l ++ behind ls r
 
-joined-behind : (ls : List (List ℕ)) (r : List ℕ) → joined ls ++ r ≡ behind ls r
-joined-behind [] r = refl
-joined-behind (l ∷ ls) r = append_assoc l (joined ls) r ∙ ap (λ (b : List ℕ). l ++ b) (joined-behind ls r)
+joined_behind : (ls : List (List ℕ)) (r : List ℕ) → joined ls ++ r ≡ behind ls r
+joined_behind [] r = refl
+joined_behind (l ∷ ls) r = append_assoc l (joined ls) r ∙ ap (λ (b : List ℕ). l ++ b) (joined_behind ls r)
 
 abbrev pub options_length : Fields → List ℕ → List ℕ → ℕ
 options_length f destination signature = length (joined (option_parts f destination signature))
 
 module _ (f : Fields) (nacks destination signature payload : List ℕ) where
-  pub packet-behind : packet_bytes f nacks destination signature payload ≡ behind (head_parts f nacks (options_length f destination signature)) (behind (option_parts f destination signature) payload)
+  pub packet_behind : packet_bytes f nacks destination signature payload ≡ behind (head_parts f nacks (options_length f destination signature)) (behind (option_parts f destination signature) payload)
   unfolding packet_bytes
-  packet-behind =
-      ap (λ (b : List ℕ). joined (head_parts f nacks (options_length f destination signature)) ++ b) (joined-behind (option_parts f destination signature) payload)
-      ∙ joined-behind (head_parts f nacks (options_length f destination signature)) (behind (option_parts f destination signature) payload)
+  packet_behind =
+      ap (λ (b : List ℕ). joined (head_parts f nacks (options_length f destination signature)) ++ b) (joined_behind (option_parts f destination signature) payload)
+      ∙ joined_behind (head_parts f nacks (options_length f destination signature)) (behind (option_parts f destination signature) payload)
 
-  pub length-packet : length (packet_bytes f nacks destination signature payload) ≡ 22 + 4 * length nacks + options_length f destination signature + length payload
+  pub length_packet : length (packet_bytes f nacks destination signature payload) ≡ 22 + 4 * length nacks + options_length f destination signature + length payload
   unfolding packet_bytes
-  length-packet =
+  length_packet =
       rw (
         length-append (joined (head_parts f nacks (options_length f destination signature))) (joined (option_parts f destination signature) ++ payload),
-        length-head f nacks (options_length f destination signature),
+        length_head f nacks (options_length f destination signature),
         length-append (joined (option_parts f destination signature)) payload,
       )
       (omega arith)

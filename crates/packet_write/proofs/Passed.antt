@@ -21,7 +21,7 @@ pub record Passed (f : Fields) (nacks destination signature payload : List ℕ) 
   pub fit : parts_unfit f destination signature ≡ false
   pub form : (bit 5 f.flags && not (is_destination destination)) ≡ false
   pub signed : (bit 3 f.flags && (bit 5 f.flags && not (eqb (length signature) (signs_of destination)))) ≡ false
-  pub is : w ≡ record { length-is = packet_length f nacks destination signature payload; signature_at = signed_at f nacks destination when bit 3 f.flags else 0 }
+  pub is : w ≡ record { length_is = packet_length f nacks destination signature payload; signature_begins = signed_at f nacks destination when bit 3 f.flags else 0 }
 
 pub passed : (f : Fields) (nacks destination signature payload : List ℕ) (room : ℕ) (w : Written)
     → write_of f nacks destination signature payload room ≡ values w → Passed f nacks destination signature payload room w

@@ -15,8 +15,8 @@ use Rattle.terms.specs.Answers.{Saying, values}
 use Rattle.terms.specs.Ladder.{◌when◌else◌}
 use Rattle.terms.specs.Lists.{all}
 use Rattle.wire.specs.BigEndian.{bytes_of, bytes_of_each, number_at}
-use Rattle.wire.proofs.Laws.{length-bytes, length-each}
-use Rattle.wire.proofs.RoundTrip.{past, part_here, number_here, fits, each-numbers}
+use Rattle.wire.proofs.Laws.{length_bytes, length_each}
+use Rattle.wire.proofs.RoundTrip.{past, part_here, number_here, fits, each_numbers}
 use Rattle.packet_read.specs.Flags.{bit}
 use Rattle.packet_read.specs.Destination.{Whole, destination_in, signs_of, is_destination}
 use Rattle.packet_read.specs.Options.{destination_begins, no_destination, options_in}
@@ -27,13 +27,13 @@ use Rattle.packet_read.proofs.Ways.{all_found, past_delay, past_options, fields_
 use Rattle.packet_write.specs.Writing.{Written, unfit, parts_unfit, signed_at, head_parts, if_there, option_parts, packet_bytes, write_of}
 use Rattle.packet_write.specs.RoundTrip.{Ranged, given, ReadBack, OutputBack}
 use Rattle.packet_write.specs.declared.Fields.{Fields}
-use Rattle.packet_write.proofs.Joins.{behind, options_length, packet-behind, length-packet, length_options}
+use Rattle.packet_write.proofs.Joins.{behind, options_length, packet_behind, length_packet, length_options}
 use Rattle.packet_write.proofs.Passed.{passed}
 
 -- a number where it stands, and what stands behind it
 field : (k x at to : ℕ) (p : List ℕ) (ls : List (List ℕ)) (r : List ℕ) → x < 256 ^ k → at + k ≡ to → drop at p ≡ behind (bytes_of k x ∷ ls) r
     → (number_at k at p ≡ x) × (drop to p ≡ behind ls r)
-field k x at to p ls r h t e = (number_here k x at p (behind ls r) h e, past at k to p (bytes_of k x) (behind ls r) e (length-bytes k x) t)
+field k x at to p ls r h t e = (number_here k x at p (behind ls r) h e, past at k to p (bytes_of k x) (behind ls r) e (length_bytes k x) t)
 
 -- the same of an option's number
 option : (there : Bool) (x at : ℕ) (p r : List ℕ) → x < 2 ^ 16 → (there ≡ false → x ≡ 0) → drop at p ≡ if_there there x ++ r
@@ -69,10 +69,10 @@ clear f destination signature h =
     }
 
 -- the sizes that the reader finds are those of the parts that were given
-size-found : (from is : Bool) (w : Saying Whole) (size s : ℕ) → (from && not is) ≡ false → (from ≡ false → size ≡ 0) → (is ≡ true → w ≡ values (record { size = size; signs = s }))
+size_found : (from is : Bool) (w : Saying Whole) (size s : ℕ) → (from && not is) ≡ false → (from ≡ false → size ≡ 0) → (is ≡ true → w ≡ values (record { size = size; signs = s }))
     → values (record { size = size; signs = s when from else 0 }) ≡ (w when from else values no_destination)
-size-found true is w size s h z e = sym (e (not-false is h))
-size-found false is w size s h z e = λ i. values (record { size = z refl i; signs = 0 })
+size_found true is w size s h z e = sym (e (not-false is h))
+size_found false is w size s h z e = λ i. values (record { size = z refl i; signs = 0 })
 
 signature_found : (there from : Bool) (size s rest : ℕ) → (there && (from && not (eqb size s))) ≡ false → (there ≡ false → size ≡ 0) → size ≡ rest
     → size ≡ (((s when from else 0) when from else rest) when there else 0)
@@ -82,13 +82,13 @@ signature_found false from size s rest h z e = z refl
 
 -- every field before the options, and what stands behind them
 record Head (f : Fields) (nacks : List ℕ) (options : ℕ) (r p : List ℕ) : Type 0 where
-  send-is : number_at 4 0 p ≡ f.send_stream_id.0
+  send_is : number_at 4 0 p ≡ f.send_stream_id.0
   recv_is : number_at 4 4 p ≡ f.recv_stream_id.0
-  seq-is : number_at 4 8 p ≡ f.seq_nro.0
-  ack-is : number_at 4 12 p ≡ f.ack_through.0
-  count-is : nack_count p ≡ length nacks
+  seq_is : number_at 4 8 p ≡ f.seq_nro.0
+  ack_is : number_at 4 12 p ≡ f.ack_through.0
+  count_is : nack_count p ≡ length nacks
   nack_bytes : take (4 * length nacks) (drop 17 p) ≡ bytes_of_each 4 nacks
-  resend-is : number_at 1 (17 + 4 * length nacks) p ≡ f.resend_delay
+  resend_is : number_at 1 (17 + 4 * length nacks) p ≡ f.resend_delay
   flags_are : number_at 2 (18 + 4 * length nacks) p ≡ f.flags
   options_are : number_at 2 (20 + 4 * length nacks) p ≡ options
   then_options : drop (22 + 4 * length nacks) p ≡ r
@@ -98,23 +98,23 @@ head_back : (f : Fields) (nacks : List ℕ) (options : ℕ) (r p : List ℕ) →
 head_back f nacks options r p ranged few small is =
     let n = length nacks in
     let ls = head_parts f nacks options in
-    let a = field 4 f.send_stream_id.0 0 4 p (drop 1 ls) r ranged.send-fits refl is in
+    let a = field 4 f.send_stream_id.0 0 4 p (drop 1 ls) r ranged.send_fits refl is in
     let b = field 4 f.recv_stream_id.0 4 8 p (drop 2 ls) r ranged.recv_fits refl a.1 in
-    let c = field 4 f.seq_nro.0 8 12 p (drop 3 ls) r ranged.seq-fits refl b.1 in
-    let d = field 4 f.ack_through.0 12 16 p (drop 4 ls) r ranged.ack-fits refl c.1 in
+    let c = field 4 f.seq_nro.0 8 12 p (drop 3 ls) r ranged.seq_fits refl b.1 in
+    let d = field 4 f.ack_through.0 12 16 p (drop 4 ls) r ranged.ack_fits refl c.1 in
     let e = field 1 n 16 17 p (drop 5 ls) r (omega arith) refl d.1 in
-    let g : drop (17 + 4 * n) p ≡ behind (drop 6 ls) r = past 17 (4 * n) (17 + 4 * n) p (bytes_of_each 4 nacks) (behind (drop 6 ls) r) e.1 (length-each 4 nacks) refl in
-    let h = field 1 f.resend_delay (17 + 4 * n) (18 + 4 * n) p (drop 7 ls) r ranged.resend-fits (omega arith) g in
+    let g : drop (17 + 4 * n) p ≡ behind (drop 6 ls) r = past 17 (4 * n) (17 + 4 * n) p (bytes_of_each 4 nacks) (behind (drop 6 ls) r) e.1 (length_each 4 nacks) refl in
+    let h = field 1 f.resend_delay (17 + 4 * n) (18 + 4 * n) p (drop 7 ls) r ranged.resend_fits (omega arith) g in
     let i = field 2 f.flags (18 + 4 * n) (20 + 4 * n) p (drop 8 ls) r ranged.flags_fit (omega arith) h.1 in
     let j = field 2 options (20 + 4 * n) (22 + 4 * n) p [] r small (omega arith) i.1 in
     record {
-      send-is = a.0;
+      send_is = a.0;
       recv_is = b.0;
-      seq-is = c.0;
-      ack-is = d.0;
-      count-is = e.0;
-      nack_bytes = part_here 17 (4 * n) p (bytes_of_each 4 nacks) (behind (drop 6 ls) r) e.1 (length-each 4 nacks);
-      resend-is = h.0;
+      seq_is = c.0;
+      ack_is = d.0;
+      count_is = e.0;
+      nack_bytes = part_here 17 (4 * n) p (bytes_of_each 4 nacks) (behind (drop 6 ls) r) e.1 (length_each 4 nacks);
+      resend_is = h.0;
       flags_are = i.0;
       options_are = j.0;
       then_options = j.1;
@@ -122,9 +122,9 @@ head_back f nacks options r p ranged few small is =
 
 -- the options that begin at `at`, and the payload behind them
 record Tail (f : Fields) (destination signature payload : List ℕ) (at : ℕ) (p : List ℕ) : Type 0 where
-  delay-is : (number_at 2 at p when bit 6 f.flags else 0) ≡ f.delay
+  delay_is : (number_at 2 at p when bit 6 f.flags else 0) ≡ f.delay
   destination_here : drop (destination_begins at f.flags) p ≡ destination ++ (if_there (bit 7 f.flags) f.max_size ++ (signature ++ payload))
-  max-is : (number_at 2 (destination_begins at f.flags + length destination) p when bit 7 f.flags else 0) ≡ f.max_size
+  max_is : (number_at 2 (destination_begins at f.flags + length destination) p when bit 7 f.flags else 0) ≡ f.max_size
   signature_here : drop (destination_begins at f.flags + length destination + (2 when bit 7 f.flags else 0)) p ≡ signature ++ payload
   payload_here : drop (destination_begins at f.flags + length destination + (2 when bit 7 f.flags else 0) + length signature) p ≡ payload
 
@@ -135,13 +135,13 @@ tail_back f destination signature payload at p ranged none is =
     let max-at = from + length destination in
     let place = max-at + (2 when bit 7 f.flags else 0) in
     let rest = signature ++ payload in
-    let a = option (bit 6 f.flags) f.delay at p (destination ++ (if_there (bit 7 f.flags) f.max_size ++ rest)) ranged.delay-fits none.no_delay is in
+    let a = option (bit 6 f.flags) f.delay at p (destination ++ (if_there (bit 7 f.flags) f.max_size ++ rest)) ranged.delay_fits none.no_delay is in
     let b = past from (length destination) max-at p destination (if_there (bit 7 f.flags) f.max_size ++ rest) a.1 refl refl in
-    let c = option (bit 7 f.flags) f.max_size max-at p rest ranged.max-fits none.no_max b in
+    let c = option (bit 7 f.flags) f.max_size max-at p rest ranged.max_fits none.no_max b in
     record {
-      delay-is = a.0;
+      delay_is = a.0;
       destination_here = a.1;
-      max-is = c.0;
+      max_is = c.0;
       signature_here = c.1;
       payload_here = past place (length signature) (place + length signature) p signature payload c.1 refl refl;
     }
@@ -170,13 +170,13 @@ module _ (f : Fields) (nacks destination signature payload p : List ℕ) (head :
       let place = signed_at f nacks destination in
       let long = length_options f destination signature in
       let whole : Whole = record { size = length destination; signs = signs_of destination when bit 5 f.flags else 0 } in
-      let d = size-found (bit 5 f.flags) (is_destination destination) (destination_in p from end) (length destination) (signs_of destination) form none.no_destination_there
+      let d = size_found (bit 5 f.flags) (is_destination destination) (destination_in p from end) (length destination) (signs_of destination) form none.no_destination_there
       (λ t. destination_found p destination (if_there (bit 7 f.flags) f.max_size ++ (signature ++ payload)) from end tail.destination_here t (omega (arith, long))) in
       let s : length signature ≡ (((signs_of destination when bit 5 f.flags else 0) when bit 5 f.flags else (end - place)) when bit 3 f.flags else 0) =
       signature_found (bit 3 f.flags) (bit 5 f.flags) (length signature) (signs_of destination) (end - place) signed none.no_signature (omega (arith, long)) in
       let l : end - place - length signature ≡ 0 = omega (arith, long) in
       let found = all_found p at end f.flags whole place (omega arith) (omega (arith, long)) online (length signature) s (omega (arith, long))
-      from f.delay f.max_size refl (sym tail.delay-is) (sym tail.max-is) in
+      from f.delay f.max_size refl (sym tail.delay_is) (sym tail.max_is) in
       rw l at found ∙ past_delay p at end f.flags from refl (omega (arith, long)) (values whole) (bit 5 f.flags) refl d
 
   fields_given : options_length f destination signature ≡ (2 when bit 6 f.flags else 0) + length destination + (2 when bit 7 f.flags else 0) + length signature
@@ -186,7 +186,7 @@ module _ (f : Fields) (nacks destination signature payload p : List ℕ) (head :
   fields_given long whole =
       let e : 22 + 4 * length nacks + options_length f destination signature ≡ signed_at f nacks destination + length signature = omega arith in
       let l : length p - (signed_at f nacks destination + length signature) ≡ length payload = omega arith in
-      rw (e, l, head.send-is, head.recv_is, head.seq-is, head.ack-is, head.resend-is)
+      rw (e, l, head.send_is, head.recv_is, head.seq_is, head.ack_is, head.resend_is)
 
 -- The theorem: for fields and NACKs that fit their widths, any destination, signature and payload and any room, a packet that is not
 -- refused reads back as what was given.
@@ -199,14 +199,14 @@ reads_back f nacks destination signature payload room w ranged fit h =
     let r = behind (option_parts f destination signature) payload in
     let ok = passed f nacks destination signature payload room w h in
     let long = length_options f destination signature in
-    let whole = length-packet f nacks destination signature payload in
+    let whole = length_packet f nacks destination signature payload in
     let none = clear f destination signature ok.fit in
-    let head = head_back f nacks o r p ranged ok.fitting.few (omega (arith, long, ok.fitting.short)) (packet-behind f nacks destination signature payload) in
+    let head = head_back f nacks o r p ranged ok.fitting.few (omega (arith, long, ok.fitting.short)) (packet_behind f nacks destination signature payload) in
     let tail = tail_back f destination signature payload (22 + 4 * n) p ranged none head.then_options in
     let found = found_back f nacks destination signature in
     let options = options_back f nacks destination signature payload p head tail none ok.online ok.form ok.signed in
     let short : length p ≤ 65535 = omega (arith, long, whole, ok.fitting.short) in
-    let en = sym head.count-is in
+    let en = sym head.count_is in
     let eo = sym head.options_are in
     let ef = sym head.flags_are in
     let read = past_options p short (omega (arith, whole)) n en (omega (arith, whole)) o eo (omega (arith, whole)) f.flags ef (values found) options in
@@ -218,7 +218,7 @@ reads_back f nacks destination signature payload room w ranged fit h =
     record {
       fields_back = answer;
       nack_bytes_back = nack_bytes;
-      nacks_back = rw (nack_bytes, length-each 4 nacks, four) (rw append-nil at (each-numbers nacks [] fit));
+      nacks_back = rw (nack_bytes, length_each 4 nacks, four) (rw append-nil at (each_numbers nacks [] fit));
       destination_back =
           rw answer
           (part_here (destination_begins (22 + 4 * n) f.flags) (length destination) p destination (if_there (bit 7 f.flags) f.max_size ++ (signature ++ payload)) tail.destination_here refl);
@@ -232,11 +232,11 @@ pub output_reads_back : (f : Fields) (nacks destination signature payload output
 output_reads_back f nacks destination signature payload output w ranged fit h =
     let p = packet_bytes f nacks destination signature payload in
     let ok = passed f nacks destination signature payload (length output) w h in
-    let long : length p ≡ w.length-is =
-    omega (arith, length-packet f nacks destination signature payload, length_options f destination signature, ap (λ (x : Written). x.length-is) ok.is) in
+    let long : length p ≡ w.length_is =
+    omega (arith, length_packet f nacks destination signature payload, length_options f destination signature, ap (λ (x : Written). x.length_is) ok.is) in
     record {
       read_back = reads_back f nacks destination signature payload (length output) w ranged fit h;
-      begins = rw h (take_at p (drop (length p) output) w.length-is long);
+      begins = rw h (take_at p (drop (length p) output) w.length_is long);
       long = long;
-      signature_there = ap (λ (x : Written). x.signature_at) ok.is;
+      signature_there = ap (λ (x : Written). x.signature_begins) ok.is;
     }

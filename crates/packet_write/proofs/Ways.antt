@@ -25,13 +25,13 @@ module _ (flags nacks destination signature payload room : ℕ) where
   abbrev sizes : Saying Written
   sizes = by_length flags (signature_at (22 + 4 * nacks) flags destination + signature + payload) (signature_at (22 + 4 * nacks) flags destination) room
 
-  pub part-long : 65535 < signature_at (22 + 4 * nacks) flags destination + signature + payload → refusal 2 ≡ sizes
-  part-long h = simp (lt-ltb 65535 (signature_at (22 + 4 * nacks) flags destination + signature + payload) h)
+  pub part_long_lem : 65535 < signature_at (22 + 4 * nacks) flags destination + signature + payload → refusal 2 ≡ sizes
+  part_long_lem h = simp (lt-ltb 65535 (signature_at (22 + 4 * nacks) flags destination + signature + payload) h)
 
   -- the code's place and length are the definition's
   module _ (at : ℕ) (e : at ≡ signature_at (22 + 4 * nacks) flags destination) where
     pub too_long : 65535 < at + signature + payload → refusal 2 ≡ sizes
-    too_long h = part-long (rw e at h)
+    too_long h = part_long_lem (rw e at h)
 
     module _ (h : at + signature + payload ≤ 65535) where
       pub no_room : room < at + signature + payload → refusal 7 ≡ sizes

@@ -16,20 +16,20 @@ use Rattle.terms.specs.Answers.{Saying, values}
 use Rattle.terms.specs.Ladder.{◌when◌else◌}
 use Rattle.terms.specs.Lists.{all}
 use Rattle.wire.specs.BigEndian.{is_byte, bytes_of, bytes_of_each, number_at, numbers_at}
-use Rattle.wire.proofs.RoundTrip.{number_small, peel, peel_each, length-numbers}
+use Rattle.wire.proofs.RoundTrip.{number_small, peel, peel_each, length_numbers}
 use Rattle.packet_read.specs.Flags.{bit}
 use Rattle.packet_read.specs.Destination.{Whole, destination_in, signs_of, is_destination}
 use Rattle.packet_read.specs.Options.{destination_begins, max_at, signature_at, no_destination, signature_size, found}
 use Rattle.packet_read.specs.Reading.{nack_count, flags_of, options_at, options_end, fields_read, read_of, fields_in, fields_of, spanned}
 use Rattle.packet_read.specs.declared.Packet.{Packet}
-use Rattle.packet_read.proofs.Form.{size-inside}
+use Rattle.packet_read.proofs.Form.{size_inside}
 use Rattle.packet_read.proofs.Moved.{destination_alone}
 use Rattle.packet_read.proofs.Looks.{nack_numbers}
 use Rattle.packet_read.proofs.Readable.{Readable, readable}
 use Rattle.packet_write.specs.Writing.{written, unfit, parts_unfit, signed_at, head_parts, if_there, option_parts, packet_bytes, write_of}
 use Rattle.packet_write.specs.RoundTrip.{fields_again, WrittenBack}
 use Rattle.packet_write.specs.declared.Fields.{Fields}
-use Rattle.packet_write.proofs.Joins.{behind, options_length, packet-behind, length_options}
+use Rattle.packet_write.proofs.Joins.{behind, options_length, packet_behind, length_options}
 use Rattle.packet_write.proofs.Ways.{it_fits, by_length_lem}
 
 -- the list l, in front of what goes on as the packet does
@@ -124,7 +124,7 @@ module _ (p : List ℕ) (v : Packet) (bytes : all is_byte p ≡ true) (r : Reada
   payload = spanned p read.payload
 
   destination_inside : from + r.d.size ≤ end
-  destination_inside = size-inside p from end r.d (bit 5 flags) r.held.delay-fits r.held.there
+  destination_inside = size_inside p from end r.d (bit 5 flags) r.held.delay_fits r.held.there
 
   destination_long : length destination ≡ r.d.size
   destination_long = length_part p from r.d.size (omega (arith, destination_inside, r.options_fit))
@@ -141,9 +141,9 @@ module _ (p : List ℕ) (v : Packet) (bytes : all is_byte p ≡ true) (r : Reada
         in_front (if_there (bit 6 flags) fields.delay)
         (in_front destination
         (in_front (if_there (bit 7 flags) fields.max_size) (in_front signature payload_is (peel_part p place signed end whole))
-        (peel_option p bytes (bit 7 flags) (from + r.d.size) (omega (arith, r.held.max-fits, r.options_fit))))
+        (peel_option p bytes (bit 7 flags) (from + r.d.size) (omega (arith, r.held.max_fits, r.options_fit))))
         (peel_part p from r.d.size (from + r.d.size) refl))
-        (peel_option p bytes (bit 6 flags) at (omega (arith, r.held.delay-fits, r.options_fit)))
+        (peel_option p bytes (bit 6 flags) at (omega (arith, r.held.delay_fits, r.options_fit)))
 
     options_long : options_length fields destination signature ≡ number_at 2 (20 + 4 * n) p
     options_long = omega (arith, length_options fields destination signature, destination_long, signature_long, whole)
@@ -151,7 +151,7 @@ module _ (p : List ℕ) (v : Packet) (bytes : all is_byte p ≡ true) (r : Reada
     packet_again : behind (head_parts fields nacks (options_length fields destination signature)) (behind (option_parts fields destination signature) payload) ≡ p
     packet_again =
         let fit = r.nacks_fit in
-        rw (options_long, length-numbers 4 n 17 p)
+        rw (options_long, length_numbers 4 n 17 p)
         (in_front (bytes_of 4 (number_at 4 0 p))
         (in_front (bytes_of 4 (number_at 4 4 p))
         (in_front (bytes_of 4 (number_at 4 8 p))
@@ -171,7 +171,7 @@ module _ (p : List ℕ) (v : Packet) (bytes : all is_byte p ≡ true) (r : Reada
         (peel_number p bytes 4 0 4 refl (omega arith)))
 
     bytes_again : packet_bytes fields nacks destination signature payload ≡ p
-    bytes_again = packet-behind fields nacks destination signature payload ∙ packet_again
+    bytes_again = packet_behind fields nacks destination signature payload ∙ packet_again
 
     fit_again : parts_unfit fields destination signature ≡ false
     fit_again =
@@ -195,7 +195,7 @@ module _ (p : List ℕ) (v : Packet) (bytes : all is_byte p ≡ true) (r : Reada
     accepted_again : (room : ℕ) → length p ≤ room → write_of fields nacks destination signature payload room ≡ written (length p) (place when bit 3 flags else 0)
     accepted_again room h =
         let m = length nacks in
-        let em : m ≡ n = length-numbers 4 n 17 p in
+        let em : m ≡ n = length_numbers 4 n 17 p in
         let few : m ≤ 255 = omega (arith, number_small p bytes 1 16 (omega arith)) in
         let ep : place ≡ signed_at fields nacks destination = omega (arith, destination_long) in
         let es : place + length signature + length payload ≡ length p = omega (arith, signature_long, ap length payload_is ∙ length-drop end p) in

@@ -15,14 +15,14 @@ use Rattle.packet_write.specs.declared.Fields.{Fields}
 
 -- the numbers fit their widths, as those of the code do
 pub record Ranged (f : Fields) : Type 0 where
-  pub send-fits : f.send_stream_id.0 < 2 ^ 32
+  pub send_fits : f.send_stream_id.0 < 2 ^ 32
   pub recv_fits : f.recv_stream_id.0 < 2 ^ 32
-  pub seq-fits : f.seq_nro.0 < 2 ^ 32
-  pub ack-fits : f.ack_through.0 < 2 ^ 32
-  pub resend-fits : f.resend_delay < 2 ^ 8
+  pub seq_fits : f.seq_nro.0 < 2 ^ 32
+  pub ack_fits : f.ack_through.0 < 2 ^ 32
+  pub resend_fits : f.resend_delay < 2 ^ 8
   pub flags_fit : f.flags < 2 ^ 16
-  pub delay-fits : f.delay < 2 ^ 16
-  pub max-fits : f.max_size < 2 ^ 16
+  pub delay_fits : f.delay < 2 ^ 16
+  pub max_fits : f.max_size < 2 ^ 16
 
 module _ (f : Fields) (nacks destination signature payload : List ℕ) where
   -- the reader's record of what was given
@@ -55,9 +55,9 @@ module _ (f : Fields) (nacks destination signature payload : List ℕ) where
   -- What the answer w leaves in the output: the packet at its front, as long as w says, with the signature where w says.
   pub record OutputBack (output : List ℕ) (w : Written) : Type 0 where
     pub read_back : ReadBack (packet_bytes f nacks destination signature payload)
-    pub begins : take w.length-is (output_after f nacks destination signature payload output) ≡ packet_bytes f nacks destination signature payload
-    pub long : length (packet_bytes f nacks destination signature payload) ≡ w.length-is
-    pub signature_there : w.signature_at ≡ (given.signature.at when bit 3 f.flags else 0)
+    pub begins : take w.length_is (output_after f nacks destination signature payload output) ≡ packet_bytes f nacks destination signature payload
+    pub long : length (packet_bytes f nacks destination signature payload) ≡ w.length_is
+    pub signature_there : w.signature_begins ≡ (given.signature.at when bit 3 f.flags else 0)
 
 -- READ, THEN WRITTEN
 

@@ -14,11 +14,11 @@ use Rattle.packet_write.specs.declared.Writing.TheVariants as W
 
 -- It answers the length and where the signature begins, 0 without bit 3.
 pub record Written : Type 0 where
-  pub length-is : ℕ
-  pub signature_at : ℕ
+  pub length_is : ℕ
+  pub signature_begins : ℕ
 
 abbrev pub written : ℕ → ℕ → Saying Written
-written n at = values (record { length-is = n; signature_at = at })
+written n at = values (record { length_is = n; signature_begins = at })
 
 -- what an answer says
 abbrev pub said_writing : Writing → Saying Written

@@ -8,7 +8,7 @@ use lib.ListN.{length, take, drop, take-append-drop}
 use lib.Seq.{drop-append-le}
 use Rattle.portions.specs.Fold.{Left, behind, read_all}
 use Rattle.portions.specs.Stops.{unless_given, until_given, offered}
-use Rattle.portions.proofs.Folds.{in_two, behind-behind}
+use Rattle.portions.proofs.Folds.{in_two, behind_behind}
 
 module _ {State Given : Type 0} (step : State → ℕ → Left State Given)
     (one_at_most : (state : State) (byte : ℕ) (x : Given) (y : List Given) → (step state byte).gave ≡ x ∷ y → y ≡ []) where
@@ -59,7 +59,7 @@ module _ {State Given : Type 0} (step : State → ℕ → Left State Given)
       → read_all step state (portion ++ rest) ≡ behind gave (read_all step after (drop used (portion ++ rest)))
   in_line state portion rest gave used after law within =
       rw (in_two step state portion rest, law, drop-append-le used portion rest within, in_two step after (drop used portion) rest)
-      (sym (behind-behind gave (read_all step after (drop used portion)).gave (read_all step (read_all step after (drop used portion)).state rest)))
+      (sym (behind_behind gave (read_all step after (drop used portion)).gave (read_all step (read_all step after (drop used portion)).state rest)))
 
   pub nothing_lost : (state : State) (line sizes : List ℕ)
       → read_all step state line ≡ behind (offered step state line sizes).gave (read_all step (offered step state line sizes).state (offered step state line sizes).unused)
@@ -70,7 +70,7 @@ module _ {State Given : Type 0} (step : State → ℕ → Left State Given)
       let d = does state (take size line) in
       (rw (take-append-drop size line) at (in_line state (take size line) (drop size line) one.gave one.used one.state d.is d.in_portion))
       ∙ ap (behind one.gave) (nothing_lost one.state (drop one.used line) sizes)
-      ∙ behind-behind one.gave then.gave (read_all step then.state then.unused)
+      ∙ behind_behind one.gave then.gave (read_all step then.state then.unused)
 
   -- where all is used, the calls gave what the line gives
   pub however_offered : (state : State) (line sizes : List ℕ) → (offered step state line sizes).unused ≡ []

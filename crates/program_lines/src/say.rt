@@ -1,4 +1,5 @@
 // Words and numbers on standard output. What cannot be written there is told on standard error.
+
 // The numbers of the standard streams.
 pub const STDIN_FILENO: i32 = 0;
 

@@ -85,8 +85,8 @@ missing_among next highest marks n =
     (dec_le next n))
 
 -- so each of them lies from next to highest
-pub missing-within : (next highest : ℕ) (marks : List ℕ) → all (λ n. leb next n && leb n highest) (missing_from next highest marks) ≡ true
-missing-within next highest marks =
+pub missing_within : (next highest : ℕ) (marks : List ℕ) → all (λ n. leb next n && leb n highest) (missing_from next highest marks) ≡ true
+missing_within next highest marks =
     all_among (λ n. leb next n && leb n highest) (missing_from next highest marks)
     (λ n h.
     let t = sym (missing_among next highest marks n) ∙ h in
@@ -97,22 +97,22 @@ pub missing_at : (next highest : ℕ) (marks : List ℕ) (k : ℕ) → k < lengt
     → (next ≤ get_or (missing_from next highest marks) k 0) × (get_or (missing_from next highest marks) k 0 ≤ highest)
 missing_at next highest marks k h =
     let n = get_or (missing_from next highest marks) k 0 in
-    let t = all_at (λ n. leb next n && leb n highest) (missing_from next highest marks) (missing-within next highest marks) k h in
+    let t = all_at (λ n. leb next n && leb n highest) (missing_from next highest marks) (missing_within next highest marks) k h in
     (leb-true next n (and_left (leb next n) (leb n highest) t), leb-true n highest (and_right (leb next n) (leb n highest) t))
 
 -- and they ascend
-all-those : (p test : ℕ → Bool) (l : List ℕ) → all p l ≡ true → all p (those test l) ≡ true
-all-those p test [] h = refl
-all-those p test (n ∷ l) h = kept (test n) (and_left (p n) (all p l) h) (all-those p test l (and_right (p n) (all p l) h))
+all_those : (p test : ℕ → Bool) (l : List ℕ) → all p l ≡ true → all p (those test l) ≡ true
+all_those p test [] h = refl
+all_those p test (n ∷ l) h = kept (test n) (and_left (p n) (all p l) h) (all_those p test l (and_right (p n) (all p l) h))
   where
     kept : (s : Bool) → p n ≡ true → all p (those test l) ≡ true → all p ((n ∷ those test l) when s else those test l) ≡ true
     kept true a b = and_both (p n) (all p (those test l)) a b
     kept false a b = b
 
-ascending-those : (test : ℕ → Bool) (l : List ℕ) → ascending l ≡ true → ascending (those test l) ≡ true
-ascending-those test [] h = refl
-ascending-those test (n ∷ l) h =
-    kept (test n) (all-those (ltb n) test l (and_left (all (ltb n) l) (ascending l) h)) (ascending-those test l (and_right (all (ltb n) l) (ascending l) h))
+ascending_those : (test : ℕ → Bool) (l : List ℕ) → ascending l ≡ true → ascending (those test l) ≡ true
+ascending_those test [] h = refl
+ascending_those test (n ∷ l) h =
+    kept (test n) (all_those (ltb n) test l (and_left (all (ltb n) l) (ascending l) h)) (ascending_those test l (and_right (all (ltb n) l) (ascending l) h))
   where
     kept : (s : Bool) → all (ltb n) (those test l) ≡ true → ascending (those test l) ≡ true → ascending ((n ∷ those test l) when s else those test l) ≡ true
     kept true a b = and_both (all (ltb n) (those test l)) (ascending (those test l)) a b
@@ -122,21 +122,21 @@ above_counted : (n first k : ℕ) → n < first → all (ltb n) (counted first k
 above_counted n first zero h = refl
 above_counted n first (suc k) h = and_both (ltb n first) (all (ltb n) (counted (suc first) k)) (lt-ltb n first h) (above_counted n (suc first) k (omega arith))
 
-ascending-counted : (first k : ℕ) → ascending (counted first k) ≡ true
-ascending-counted first zero = refl
-ascending-counted first (suc k) =
-    and_both (all (ltb first) (counted (suc first) k)) (ascending (counted (suc first) k)) (above_counted first (suc first) k (omega arith)) (ascending-counted (suc first) k)
+ascending_counted : (first k : ℕ) → ascending (counted first k) ≡ true
+ascending_counted first zero = refl
+ascending_counted first (suc k) =
+    and_both (all (ltb first) (counted (suc first) k)) (ascending (counted (suc first) k)) (above_counted first (suc first) k (omega arith)) (ascending_counted (suc first) k)
 
-pub missing-ascending : (next highest : ℕ) (marks : List ℕ) → ascending (missing_from next highest marks) ≡ true
+pub missing_ascending : (next highest : ℕ) (marks : List ℕ) → ascending (missing_from next highest marks) ≡ true
 unfolding missing_from
-missing-ascending next highest marks = ascending-those (not_held marks) (counted next (highest + 1 - next)) (ascending-counted next (highest + 1 - next))
+missing_ascending next highest marks = ascending_those (not_held marks) (counted next (highest + 1 - next)) (ascending_counted next (highest + 1 - next))
 
-pub ascending-take : (k : ℕ) (l : List ℕ) → ascending l ≡ true → ascending (take k l) ≡ true
-ascending-take zero l h = refl
-ascending-take (suc k) [] h = refl
-ascending-take (suc k) (n ∷ l) h =
+pub ascending_take : (k : ℕ) (l : List ℕ) → ascending l ≡ true → ascending (take k l) ≡ true
+ascending_take zero l h = refl
+ascending_take (suc k) [] h = refl
+ascending_take (suc k) (n ∷ l) h =
     and_both (all (ltb n) (take k l)) (ascending (take k l)) (all_take (ltb n) k l (and_left (all (ltb n) l) (ascending l) h))
-    (ascending-take k l (and_right (all (ltb n) l) (ascending l) h))
+    (ascending_take k l (and_right (all (ltb n) l) (ascending l) h))
 
 -- a number that is not above a bound below all of them is not among them
 none_below : (n bound : ℕ) (l : List ℕ) → all (ltb bound) l ≡ true → n ≤ bound → is_among n l ≡ false

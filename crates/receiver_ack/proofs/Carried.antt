@@ -19,7 +19,7 @@ use Rattle.packet_read.proofs.Looks.{nack_numbers}
 use Rattle.packet_write.specs.Writing.{written, packet_bytes, head_parts, option_parts, write_of}
 use Rattle.packet_write.specs.RoundTrip.{Ranged, given}
 use Rattle.packet_write.specs.declared.Fields.{Fields}
-use Rattle.packet_write.proofs.Joins.{behind, options_length, packet-behind}
+use Rattle.packet_write.proofs.Joins.{behind, options_length, packet_behind}
 use Rattle.packet_write.proofs.ReadsBack.{reads_back}
 use Rattle.receiver_state.specs.Slots.{is_free, mark_of}
 use Rattle.receiver_state.specs.Rules.{rules_of}
@@ -27,16 +27,16 @@ use Rattle.receiver_calls.specs.Meaning.{standing, is_missing}
 use Rattle.receiver_state.specs.declared.Receiver.{Receiver}
 use Rattle.receiver_state.proofs.Facts.{ruled}
 use Rattle.receiver_ack.specs.Missing.{missing_from, is_among, is_received}
-use Rattle.receiver_ack.specs.Fields.{at_least255, ack_through, fields_from, ack_fields_of, ack_nacks_of, ack_through_of}
+use Rattle.receiver_ack.specs.Fields.{at_least255, acked_through, fields_from, ack_fields_of, ack_nacks_of, ack_through_of}
 use Rattle.receiver_ack.specs.Acknowledge.{acked_fields}
 use Rattle.receiver_ack.proofs.Among.{all_implies}
-use Rattle.receiver_ack.proofs.Ways.{nacks_few, packet_most, packet-written}
+use Rattle.receiver_ack.proofs.Ways.{nacks_few, packet_most, packet_written}
 use Rattle.receiver_ack.proofs.Claims.{through_at_most, nacks_missing, nacks_told, absent_received}
 
 -- The packet p reads as one of the receiver r's, under a number and with a payload: no leftover, no destination, no signature.
 pub record Carries (r : Receiver) (send recv : StreamId) (number : ℕ) (payload p : List ℕ) : Type 0 where
   pub fields_read_back : read_of p ≡ values (given (acked_fields (ack_fields_of r) send recv number) (ack_nacks_of r) [] [] payload)
-  pub count-read : nack_count p ≡ length (ack_nacks_of r)
+  pub count_read : nack_count p ≡ length (ack_nacks_of r)
   pub nacks_read : numbers_at 4 (nack_count p) 17 p ≡ ack_nacks_of r
   pub no_destination_there : destination_of p ≡ []
   pub no_signature : signature_of p ≡ []
@@ -46,7 +46,7 @@ pub record Carries (r : Receiver) (send recv : StreamId) (number : ℕ) (payload
 count_here : (f : Fields) (nacks payload : List ℕ) → length nacks ≤ 255 → nack_count (packet_bytes f nacks [] [] payload) ≡ length nacks
 count_here f nacks payload few =
     let rest = behind (drop 5 (head_parts f nacks (options_length f [] []))) (behind (option_parts f [] []) payload) in
-    number_here 1 (length nacks) 16 (packet_bytes f nacks [] [] payload) rest (omega arith) (ap (drop 16) (packet-behind f nacks [] [] payload))
+    number_here 1 (length nacks) 16 (packet_bytes f nacks [] [] payload) rest (omega arith) (ap (drop 16) (packet_behind f nacks [] [] payload))
 
 module _ (r : Receiver) (send recv : StreamId) where
   module _ (keeps : rules_of r ≡ true) (number : ℕ) (payload : List ℕ) where
@@ -57,14 +57,14 @@ module _ (r : Receiver) (send recv : StreamId) where
         let k = ruled r keeps in
         let choked = at_least255 (missing_from r.head.next.0 r.head.highest.0 r.marks) in
         record {
-          send-fits = s;
+          send_fits = s;
           recv_fits = t;
-          seq-fits = n;
-          ack-fits = omega (arith, through_at_most r, k.last);
-          resend-fits = omega arith;
+          seq_fits = n;
+          ack_fits = omega (arith, through_at_most r, k.last);
+          resend_fits = omega arith;
           flags_fit = rung (λ (x : ℕ). x < 2 ^ 16) choked (λ e. omega arith) (λ e. omega arith);
-          delay-fits = rung (λ (x : ℕ). x < 2 ^ 16) choked (λ e. omega arith) (λ e. omega arith);
-          max-fits = omega arith;
+          delay_fits = rung (λ (x : ℕ). x < 2 ^ 16) choked (λ e. omega arith) (λ e. omega arith);
+          max_fits = omega arith;
         }
 
     nacks_fit : all (fits 4) (ack_nacks_of r) ≡ true
@@ -82,11 +82,11 @@ module _ (r : Receiver) (send recv : StreamId) where
     unfolding fields_from
     taken short =
         let m = missing_from r.head.next.0 r.head.highest.0 r.marks in
-        let through = ack_through m r.head.highest.0 in
+        let through = acked_through m r.head.highest.0 in
         let few = nacks_few r.head.next.0 r.head.highest.0 r.marks in
         let p = packet_bytes (acked_fields (ack_fields_of r) send recv number) (ack_nacks_of r) [] [] payload in
         let most : length p ≤ 65535 = omega (arith, packet_most through send recv number (ack_nacks_of r) payload (at_least255 m) few) in
-        rw (packet-written through send recv number (ack_nacks_of r) payload (at_least255 m) 65535 few short, le-ltb 65535 (length p) most)
+        rw (packet_written through send recv number (ack_nacks_of r) payload (at_least255 m) 65535 few short, le-ltb 65535 (length p) most)
 
     -- A packet with a receiver's ack fields, any number and a payload of at most 64,491 bytes reads back as it was made.
     pub acked_reads : send.0 < 2 ^ 32 → recv.0 < 2 ^ 32 → number < 2 ^ 32 → length payload ≤ 64491
@@ -97,7 +97,7 @@ module _ (r : Receiver) (send recv : StreamId) where
         let back = reads_back f (ack_nacks_of r) [] [] payload 65535 _ (ranged s t n) nacks_fit (taken short) in
         record {
           fields_read_back = back.fields_back;
-          count-read = count;
+          count_read = count;
           nacks_read = sym (nack_numbers _ _ back.fields_back) ∙ back.nacks_back;
           no_destination_there = back.destination_back;
           no_signature = back.signature_back;

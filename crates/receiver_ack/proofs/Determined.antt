@@ -6,7 +6,7 @@ use native.Mathlib.Omega.{arith}
 use Rattle.terms.specs.declared.StreamId.{StreamId}
 use Rattle.terms.specs.Lists.{◌at_front_of◌}
 use Rattle.terms.proofs.Determined.{determined}
-use Rattle.terms.proofs.Numbers.{number-one}
+use Rattle.terms.proofs.Numbers.{number_one}
 use Rattle.receiver_state.specs.declared.Receiver.{Receiver}
 use Rattle.receiver_ack.specs.Missing.{missing_from}
 use Rattle.receiver_ack.specs.Fields.{fields_from}
@@ -16,17 +16,17 @@ use Rattle.receiver_ack.specs.declared.Acknowledged.{Acknowledged}
 use Rattle.receiver_ack.specs.declared.Acknowledged.TheVariants as A
 
 -- document 01's number and values leave one answer
-pub said-one : (a b : Acknowledged) → said_ack a ≡ said_ack b → a ≡ b
-said-one (A.Written m) (A.Written n) e = ap A.Written (cc)
-said-one (A.Written m) (A.Refused y) e = let z : ◌≡◌ {A = ℕ} 0 1 = cc in absurd (omega arith)
-said-one (A.Refused x) (A.Written n) e = let z : ◌≡◌ {A = ℕ} 0 1 = cc in absurd (omega arith)
-said-one (A.Refused x) (A.Refused y) e = ap A.Refused (number-one x y (cc))
+pub said_one : (a b : Acknowledged) → said_ack a ≡ said_ack b → a ≡ b
+said_one (A.Written m) (A.Written n) e = ap A.Written (cc)
+said_one (A.Written m) (A.Refused y) e = let z : ◌≡◌ {A = ℕ} 0 1 = cc in absurd (omega arith)
+said_one (A.Refused x) (A.Written n) e = let z : ◌≡◌ {A = ℕ} 0 1 = cc in absurd (omega arith)
+said_one (A.Refused x) (A.Refused y) e = ap A.Refused (number_one x y (cc))
 
 pub acknowledge_determined : (r : Receiver) (send recv : StreamId) (output : List ℕ) (a b : Acknowledged) (x y : List ℕ)
     → acknowledged a x ≡ acknowledge_of r send recv output → acknowledged b y ≡ acknowledge_of r send recv output → (a ≡ b) × (x ≡ y)
 acknowledge_determined r send recv output a b x y p q =
     let e = determined p q in
-    (said-one a b (ap (λ (o : Acknowledges). o.says) e), ap (λ (o : Acknowledges). o.output) e)
+    (said_one a b (ap (λ (o : Acknowledges). o.says) e), ap (λ (o : Acknowledges). o.output) e)
 
 module _ (next highest : ℕ) (marks : List ℕ) where
   pub fields_determined : (table : List ℕ) (a b : AckFields) (x y : List ℕ)

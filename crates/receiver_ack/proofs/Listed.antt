@@ -23,13 +23,13 @@ first_passes : (t : Bool) (n : ℕ) (a b : List ℕ) → ((n ∷ (a ++ b)) when 
 first_passes true n a b = refl
 first_passes false n a b = refl
 
-those-append : (test : ℕ → Bool) (a b : List ℕ) → those test (a ++ b) ≡ those test a ++ those test b
-those-append test [] b = refl
-those-append test (n ∷ a) b = rw (those-append test a b) (first_passes (test n) n (those test a) (those test b))
+those_append : (test : ℕ → Bool) (a b : List ℕ) → those test (a ++ b) ≡ those test a ++ those test b
+those_append test [] b = refl
+those_append test (n ∷ a) b = rw (those_append test a b) (first_passes (test n) n (those test a) (those test b))
 
 -- one number more behind those that stand at the front
-one-behind : (l table : List ℕ) (n : ℕ) → length l < length table → set (l at_front_of table) (length l) n ≡ (l ++ (n ∷ [])) at_front_of table
-one-behind l table n h =
+one_behind : (l table : List ℕ) (n : ℕ) → length l < length table → set (l at_front_of table) (length l) n ≡ (l ++ (n ∷ [])) at_front_of table
+one_behind l table n h =
     let long : length (l ++ (n ∷ [])) ≡ suc (length l) = rw length-append (add-one (length l)) in
     ap (λ (d : List ℕ). set (l ++ d) (length l) n) (drop-cons table (length l) 0 h)
     ∙ set-append_seam l (get_or table (length l) 0) (drop (suc (length l)) table) n
@@ -54,7 +54,7 @@ module _ (test : ℕ → Bool) (next highest : ℕ) (before : List ℕ) where
       let f : next + (n - next) ≡ n = omega arith in
       ap (λ (k : ℕ). those test (counted next k)) e
       ∙ ap (those test) (counted_more next (n - next))
-      ∙ those-append test (counted next (n - next)) ((next + (n - next)) ∷ [])
+      ∙ those_append test (counted next (n - next)) ((next + (n - next)) ∷ [])
       ∙ ap (λ (m : ℕ). listed test next n ++ ((m ∷ []) when test m else [])) f
 
   pub list_start : Listed test next highest before before 0 next
@@ -74,7 +74,7 @@ module _ (test : ℕ → Bool) (next highest : ℕ) (before : List ℕ) where
         long = length-set table count n ∙ l.long;
         many = rw (more, length-append) (omega (arith, l.many));
         are = ap (λ (t : List ℕ). set t count n) l.are ∙ ap (λ (k : ℕ). set (listed test next n at_front_of before) k n) l.many
-            ∙ one-behind (listed test next n) before n (omega (arith, l.many)) ∙ rw more;
+            ∙ one_behind (listed test next n) before n (omega (arith, l.many)) ∙ rw more;
       }
 
   pub list_passed : (table : List ℕ) (count n : ℕ) → Listed test next highest before table count n → n ≤ highest → test n ≡ false

@@ -53,23 +53,23 @@ module _ (r : Receiver) (send recv : StreamId) where
   -- THE CALL
 
   module _ (output : List ℕ) where
-    said-is : acknowledge_said r send recv (length output) ≡ (acknowledge_of r send recv output).says
+    said_is : acknowledge_said r send recv (length output) ≡ (acknowledge_of r send recv output).says
     unfolding acknowledge_of
-    said-is = refl
+    said_is = refl
 
     -- a refusal changes nothing
-    pub acknowledge-nothing : (n : ℕ) → (acknowledge_of r send recv output).says ≡ refusal n → (acknowledge_of r send recv output).output ≡ output
+    pub acknowledge_nothing : (n : ℕ) → (acknowledge_of r send recv output).says ≡ refusal n → (acknowledge_of r send recv output).output ≡ output
     unfolding acknowledge_of
-    acknowledge-nothing n e = rw e
+    acknowledge_nothing n e = rw e
 
     -- a state that breaks the rules is refused with 11, and a slot size out of range with 10
     pub acknowledge_broken : rules_of r ≡ false → (acknowledge_of r send recv output).says ≡ refusal 11
     unfolding acknowledge_of acknowledge_said
     acknowledge_broken e = simp e
 
-    pub acknowledge-unfit : rules_of r ≡ true → slot_fits r.head.slot ≡ false → (acknowledge_of r send recv output).says ≡ refusal 10
+    pub acknowledge_unfit : rules_of r ≡ true → slot_fits r.head.slot ≡ false → (acknowledge_of r send recv output).says ≡ refusal 10
     unfolding acknowledge_of acknowledge_said
-    acknowledge-unfit e f = simp (e, f)
+    acknowledge_unfit e f = simp (e, f)
 
     -- else its length decides
     pub acknowledge_by_room : rules_of r ≡ true → slot_fits r.head.slot ≡ true
@@ -83,9 +83,9 @@ module _ (r : Receiver) (send recv : StreamId) where
         only_7 (ltb (length output) (length (plain_ack_of r send recv))) (length (plain_ack_of r send recv)) n (sym (acknowledge_by_room e f) ∙ h)
 
     -- so of a state and a store that belong together
-    pub acknowledge-sound : (store : List ℕ) → Sound r store → (n : ℕ) → (acknowledge_of r send recv output).says ≡ refusal n → n ≡ 7
+    pub acknowledge_sound : (store : List ℕ) → Sound r store → (n : ℕ) → (acknowledge_of r send recv output).says ≡ refusal n → n ≡ 7
     unfolding sizes_fit
-    acknowledge-sound store sound n h =
+    acknowledge_sound store sound n h =
         acknowledge_fair sound.keeps (and_left (slot_fits r.head.slot) (eqb (length store) (512 * r.head.slot)) sound.fits) n h
 
     -- An output of 1,044 bytes is always enough: the ack is written unless the state is at fault, and is never refused with 7.
@@ -106,9 +106,9 @@ module _ (r : Receiver) (send recv : StreamId) where
         (λ g h. let z : ◌≡◌ {A = ℕ} 0 1 = cc in omega arith)))
 
     module _ (n : ℕ) (done : (acknowledge_of r send recv output).says ≡ values (n ∷ [])) where
-      pub acknowledge-written : Written r send recv output n
+      pub acknowledge_written : Written r send recv output n
       unfolding acknowledge_of acknowledge_said
-      acknowledge-written =
+      acknowledge_written =
           let p = plain_ack_of r send recv in
           let a = past 11 (not (rules_of r)) _ (n ∷ []) done in
           let b = past 10 (not (slot_fits r.head.slot)) _ (n ∷ []) a.1 in
@@ -122,9 +122,9 @@ module _ (r : Receiver) (send recv : StreamId) where
           }
 
       -- So the first n bytes of the output read as the receiver's ack.
-      pub acknowledge-reads : send.0 < 2 ^ 32 → recv.0 < 2 ^ 32 → ReadsAs r send recv (take n (acknowledge_of r send recv output).output)
-      acknowledge-reads s t =
-          let w = acknowledge-written in
+      pub acknowledge_reads : send.0 < 2 ^ 32 → recv.0 < 2 ^ 32 → ReadsAs r send recv (take n (acknowledge_of r send recv output).output)
+      acknowledge_reads s t =
+          let w = acknowledge_written in
           let p = plain_ack_of r send recv in
           let begins : take n (acknowledge_of r send recv output).output ≡ p = rw w.stands (take_at p (drop (length p) output) n (sym w.long)) in
           rw begins (plain_ack_reads w.keeps s t)

@@ -19,15 +19,15 @@ use Rattle.packet_write.specs.Writing.{Written, written, said_writing, packet_le
 use Rattle.packet_write.specs.declared.Fields.{Fields}
 use Rattle.packet_write.specs.declared.Writing.{Writing}
 use Rattle.packet_write.specs.declared.Writing.TheVariants as W
-use Rattle.packet_write.proofs.Joins.{length-packet, length_options}
+use Rattle.packet_write.proofs.Joins.{length_packet, length_options}
 use Rattle.terms.specs.Answers.{Said, refusal, values, ◌unless_refused◌else◌}
 use Rattle.receiver_state.specs.Rules.{rules_of, slot_fits}
 use Rattle.receiver_state.specs.declared.Receiver.{Receiver}
 use Rattle.receiver_ack.specs.Missing.{missing_from}
-use Rattle.receiver_ack.specs.Fields.{at_least255, ack_nacks, ack_through, fields_from, nacks_from}
+use Rattle.receiver_ack.specs.Fields.{at_least255, ack_nacks, acked_through, fields_from, nacks_from}
 use Rattle.receiver_ack.specs.Acknowledge.{plain_fields, plain_ack, plain_ack_of, acknowledge_said, acknowledge_of}
 use Rattle.receiver_ack.specs.declared.AckFields.{AckFields}
-use Rattle.receiver_ack.proofs.Among.{missing-ascending, climbs}
+use Rattle.receiver_ack.proofs.Among.{missing_ascending, climbs}
 
 -- FIELDS
 
@@ -52,7 +52,7 @@ module _ (next highest : ℕ) (marks : List ℕ) (count : ℕ) (is : count ≡ l
         ap (λ (t : List ℕ). get_or t 255 0) are ∙ get_or-append m (drop (length m) before) 0 255 (omega arith)
 
     pub some_256th : 1 ≤ get_or table 255 0
-    some_256th = omega (arith, at_255, climbs 255 (missing_from next highest marks) (missing-ascending next highest marks) (omega arith))
+    some_256th = omega (arith, at_255, climbs 255 (missing_from next highest marks) (missing_ascending next highest marks) (omega arith))
 
     pub fields_more : record { nacks = 255; ack_through = record { 0 = get_or table 255 0 - 1 }; flags = 64; delay = 60001 } ≡ fields_from next highest marks
     unfolding fields_from
@@ -110,66 +110,66 @@ two_at_most false = omega arith
 
 module _ (through : ℕ) (send recv : StreamId) (number : ℕ) (nacks payload : List ℕ) where
   -- how long it is
-  pub packet-long : (choked : Bool) → length (packet_by choked through send recv number nacks payload) ≡ 22 + 4 * length nacks + (2 when choked else 0) + length payload
-  packet-long true =
-      omega (arith, length-packet (fields_by true through send recv number) nacks [] [] payload, length_options (fields_by true through send recv number) [] [])
-  packet-long false =
-      omega (arith, length-packet (fields_by false through send recv number) nacks [] [] payload, length_options (fields_by false through send recv number) [] [])
+  pub packet_long : (choked : Bool) → length (packet_by choked through send recv number nacks payload) ≡ 22 + 4 * length nacks + (2 when choked else 0) + length payload
+  packet_long true =
+      omega (arith, length_packet (fields_by true through send recv number) nacks [] [] payload, length_options (fields_by true through send recv number) [] [])
+  packet_long false =
+      omega (arith, length_packet (fields_by false through send recv number) nacks [] [] payload, length_options (fields_by false through send recv number) [] [])
 
   pub packet_most : (choked : Bool) → length nacks ≤ 255 → length (packet_by choked through send recv number nacks payload) ≤ 1044 + length payload
-  packet_most choked few = omega (arith, packet-long choked, two_at_most choked)
+  packet_most choked few = omega (arith, packet_long choked, two_at_most choked)
 
   -- with a payload of at most 64,491 bytes the writer refuses it only for an output that is too short
-  pub packet-written : (choked : Bool) (room : ℕ) → length nacks ≤ 255 → length payload ≤ 64491
+  pub packet_written : (choked : Bool) (room : ℕ) → length nacks ≤ 255 → length payload ≤ 64491
       → write_of (fields_by choked through send recv number) nacks [] [] payload room
       ≡ (refusal 7 when ltb room (length (packet_by choked through send recv number nacks payload)) else written (length (packet_by choked through send recv number nacks payload)) 0)
   unfolding write_of
-  packet-written true room few short =
+  packet_written true room few short =
       let e : packet_length (fields_by true through send recv number) nacks [] [] payload ≡ 22 + 4 * length nacks + 2 + length payload = omega arith in
-      rw (packet-long true) (simp (le-ltb 255 (length nacks) few, e, le-ltb 65535 (22 + 4 * length nacks + 2 + length payload) (omega arith)))
-  packet-written false room few short =
+      rw (packet_long true) (simp (le-ltb 255 (length nacks) few, e, le-ltb 65535 (22 + 4 * length nacks + 2 + length payload) (omega arith)))
+  packet_written false room few short =
       let e : packet_length (fields_by false through send recv number) nacks [] [] payload ≡ 22 + 4 * length nacks + 0 + length payload = omega arith in
-      rw (packet-long false) (simp (le-ltb 255 (length nacks) few, e, le-ltb 65535 (22 + 4 * length nacks + 0 + length payload) (omega arith)))
+      rw (packet_long false) (simp (le-ltb 255 (length nacks) few, e, le-ltb 65535 (22 + 4 * length nacks + 0 + length payload) (omega arith)))
 
 -- PLAIN
 
-short-told : (t : Bool) (why : Refusal) (n : ℕ) → refusal (number_of why) ≡ (refusal 7 when t else written n 0) → refusal (number_of why) ≡ (refusal 7 when t else values (n ∷ []))
-short-told true why n e = ap refusal (cc)
-short-told false why n e = let z : ◌≡◌ {A = ℕ} 0 1 = cc in absurd (omega arith)
+short_told : (t : Bool) (why : Refusal) (n : ℕ) → refusal (number_of why) ≡ (refusal 7 when t else written n 0) → refusal (number_of why) ≡ (refusal 7 when t else values (n ∷ []))
+short_told true why n e = ap refusal (cc)
+short_told false why n e = let z : ◌≡◌ {A = ℕ} 0 1 = cc in absurd (omega arith)
 
-length-told : (t : Bool) (m at n : ℕ) → written m at ≡ (refusal 7 when t else written n 0) → values (m ∷ []) ≡ (refusal 7 when t else values (n ∷ []))
-length-told true m at n e = let z : ◌≡◌ {A = ℕ} 0 1 = cc in absurd (omega arith)
-length-told false m at n e =
-    let w : ◌≡◌ {A = Written} (record { length-is = m; signature_at = at }) (record { length-is = n; signature_at = 0 }) = cc in
-    ap (λ (x : Written). values (x.length-is ∷ [])) w
+length_told : (t : Bool) (m at n : ℕ) → written m at ≡ (refusal 7 when t else written n 0) → values (m ∷ []) ≡ (refusal 7 when t else values (n ∷ []))
+length_told true m at n e = let z : ◌≡◌ {A = ℕ} 0 1 = cc in absurd (omega arith)
+length_told false m at n e =
+    let w : ◌≡◌ {A = Written} (record { length_is = m; signature_begins = at }) (record { length_is = n; signature_begins = 0 }) = cc in
+    ap (λ (x : Written). values (x.length_is ∷ [])) w
 
 module _ (next highest : ℕ) (marks : List ℕ) (send recv : StreamId) where
   pub ack_most : length (plain_ack next highest marks send recv) ≤ 1044
   unfolding plain_ack fields_from
   ack_most =
       let m = missing_from next highest marks in
-      packet_most (ack_through m highest) send recv 0 (nacks_from next highest marks) [] (at_least255 m) (nacks_few next highest marks)
+      packet_most (acked_through m highest) send recv 0 (nacks_from next highest marks) [] (at_least255 m) (nacks_few next highest marks)
 
   -- what the writer answers to a plain ack
-  pub ack-written : (room : ℕ) → write_of (plain_fields (fields_from next highest marks) send recv) (nacks_from next highest marks) [] [] [] room
+  pub ack_written : (room : ℕ) → write_of (plain_fields (fields_from next highest marks) send recv) (nacks_from next highest marks) [] [] [] room
       ≡ (refusal 7 when ltb room (length (plain_ack next highest marks send recv)) else written (length (plain_ack next highest marks send recv)) 0)
   unfolding plain_ack fields_from
-  ack-written room =
+  ack_written room =
       let m = missing_from next highest marks in
-      packet-written (ack_through m highest) send recv 0 (nacks_from next highest marks) [] (at_least255 m) room (nacks_few next highest marks) (omega arith)
+      packet_written (acked_through m highest) send recv 0 (nacks_from next highest marks) [] (at_least255 m) room (nacks_few next highest marks) (omega arith)
 
   module _ (acks : AckFields) (nacks output after : List ℕ) (w : Writing) (e : acks ≡ fields_from next highest marks) (f : nacks ≡ nacks_from next highest marks)
       (says : said_writing w ≡ write_of (plain_fields acks send recv) nacks [] [] [] (length output))
       (leaves : after ≡ output_after (plain_fields acks send recv) nacks [] [] [] output) where
     told : said_writing w ≡ (refusal 7 when ltb (length output) (length (plain_ack next highest marks send recv)) else written (length (plain_ack next highest marks send recv)) 0)
-    told = says ∙ rw (e, f) (ack-written (length output))
+    told = says ∙ rw (e, f) (ack_written (length output))
 
     pub plain_refused : (why : Refusal) → w ≡ W.Refused why
         → (refusal (number_of why) ≡ (refusal 7 when ltb (length output) (length (plain_ack next highest marks send recv)) else values (length (plain_ack next highest marks send recv) ∷ [])))
         × (after ≡ output)
     plain_refused why g =
         let s = sym (ap said_writing g) ∙ says in (
-          short-told (ltb (length output) (length (plain_ack next highest marks send recv))) why (length (plain_ack next highest marks send recv)) (sym (ap said_writing g) ∙ told),
+          short_told (ltb (length output) (length (plain_ack next highest marks send recv))) why (length (plain_ack next highest marks send recv)) (sym (ap said_writing g) ∙ told),
           leaves ∙ rw (sym s),
         )
 
@@ -179,7 +179,7 @@ module _ (next highest : ℕ) (marks : List ℕ) (send recv : StreamId) where
     unfolding plain_ack
     plain_written n at g =
         let s = sym (ap said_writing g) ∙ says in (
-          length-told (ltb (length output) (length (plain_ack next highest marks send recv))) n at (length (plain_ack next highest marks send recv)) (sym (ap said_writing g) ∙ told),
+          length_told (ltb (length output) (length (plain_ack next highest marks send recv))) n at (length (plain_ack next highest marks send recv)) (sym (ap said_writing g) ∙ told),
           leaves ∙ rw (sym s, e, f),
         )
 
@@ -191,9 +191,9 @@ module _ (r : Receiver) (send recv : StreamId) (output : List ℕ) where
   ack_broken e = sym (simp e)
 
   module _ (keeps : rules_of r ≡ true) where
-    pub ack-unfit : slot_fits r.head.slot ≡ false → record { says = refusal 10; output = output } ≡ acknowledge_of r send recv output
+    pub ack_unfit : slot_fits r.head.slot ≡ false → record { says = refusal 10; output = output } ≡ acknowledge_of r send recv output
     unfolding acknowledge_of acknowledge_said
-    ack-unfit e = sym (simp (keeps, e))
+    ack_unfit e = sym (simp (keeps, e))
 
     pub ack_plain : slot_fits r.head.slot ≡ true → (answer : Said) (after : List ℕ)
         → answer ≡ (refusal 7 when ltb (length output) (length (plain_ack_of r send recv)) else values (length (plain_ack_of r send recv) ∷ []))

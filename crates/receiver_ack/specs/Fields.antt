@@ -22,8 +22,8 @@ module _ (missing : List ℕ) where
   smallest256th = get_or missing 255 0
 
   -- with at most 255 missing, ack-through is highest; with more, it is the 256th smallest less one
-  abbrev pub ack_through : ℕ → ℕ
-  ack_through highest = highest when at_most255 else (smallest256th - 1)
+  abbrev pub acked_through : ℕ → ℕ
+  acked_through highest = highest when at_most255 else (smallest256th - 1)
 
   -- with 255 or more missing, flag bit 6 and delay 60,001 are set
   abbrev pub ack_flags : ℕ
@@ -36,7 +36,7 @@ module _ (missing : List ℕ) where
   abbrev pub ack_record : ℕ → AckFields
   ack_record highest = record {
     nacks = length ack_nacks;
-    ack_through = record { 0 = ack_through highest };
+    ack_through = record { 0 = acked_through highest };
     flags = ack_flags;
     delay = ack_delay;
   }

@@ -3,7 +3,7 @@ use Prim.Native.Nat.{ℕ}
 use mathlib.Core.Path.{◌≡◌, ap}
 use mathlib.Core.List.{List}
 use Rattle.terms.specs.declared.SeqNo.{SeqNo}
-use Rattle.terms.proofs.Determined.{determined, said-one, said_of_one}
+use Rattle.terms.proofs.Determined.{determined, said_one, said_of_one}
 use Rattle.receiver_state.specs.Answers.{◌over◌, Outcome}
 use Rattle.receiver_state.specs.declared.Head.{Head}
 use Rattle.receiver_calls.specs.Accept.{accept_of, accepted, accepted_over}
@@ -18,7 +18,7 @@ pub accept_determined : (r : Receiver) (number : SeqNo) (payload store : List �
     → accepted a x ≡ accept_of r number payload store → accepted b y ≡ accept_of r number payload store → (a ≡ b) × (x ≡ y)
 accept_determined r number payload store a b x y p q =
     let e = determined p q in
-    (λ k. record { answer = said-one a.answer b.answer (ap (λ (o : Outcome). o.says) e) k; state = (e k).state }, ap (λ (o : Outcome). o.lent) e)
+    (λ k. record { answer = said_one a.answer b.answer (ap (λ (o : Outcome). o.says) e) k; state = (e k).state }, ap (λ (o : Outcome). o.lent) e)
 
 pub take_determined : (r : Receiver) (store output : List ℕ) (a b : Taken) (x y : List ℕ)
     → took a x ≡ take_of r store output → took b y ≡ take_of r store output → (a ≡ b) × (x ≡ y)
@@ -32,7 +32,7 @@ module _ (h : Head) (marks : List ℕ) where
       → accepted_over a t x ≡ accept_of (h over marks) number payload store → accepted_over b u y ≡ accept_of (h over marks) number payload store → (a ≡ b) × (t ≡ u) × (x ≡ y)
   accept_in_determined number payload store a b t u x y p q =
       let e = determined p q in (
-        λ k. record { answer = said-one a.answer b.answer (ap (λ (o : Outcome). o.says) e) k; head = (e k).state.head },
+        λ k. record { answer = said_one a.answer b.answer (ap (λ (o : Outcome). o.says) e) k; head = (e k).state.head },
         ap (λ (o : Outcome). o.state.marks) e,
         ap (λ (o : Outcome). o.lent) e,
       )

@@ -22,33 +22,33 @@ apart next m n a b c d e f = e (omega arith)
 pub number_is : (next n : ℕ) → next ≤ n → n - next < 512 → slot_number next (n % 512) ≡ n
 number_is next n a b = omega arith
 
-number-slot : (next k : ℕ) → k < 512 → slot_number next k % 512 ≡ k
-number-slot next k h = omega arith
+number_slot : (next k : ℕ) → k < 512 → slot_number next k % 512 ≡ k
+number_slot next k h = omega arith
 
 later : (next m : ℕ) → next ≤ m → m - next < 512 → (m ≡ next → ⊥) → slot_number (next + 1) (m % 512) ≡ m
 later next m a b n = number_is (next + 1) m (omega (arith, n)) (omega arith)
 
 -- when next goes on, every slot but its own stands for the number that it stood for
-pub number-later : (next k : ℕ) → k < 512 → (k ≡ next % 512 → ⊥) → slot_number (next + 1) k ≡ slot_number next k
-number-later next k h n =
+pub number_later : (next k : ℕ) → k < 512 → (k ≡ next % 512 → ⊥) → slot_number (next + 1) k ≡ slot_number next k
+number_later next k h n =
     let m = slot_number next k in
-    let s : m % 512 ≡ k = number-slot next k h in
+    let s : m % 512 ≡ k = number_slot next k h in
     let o : m ≡ next → ⊥ = λ e. n (sym s ∙ ap (λ (x : ℕ). x % 512) e) in
     let low : next ≤ m = omega arith in
     let near : m - next < 512 = omega arith in
     sym (ap (slot_number (next + 1)) s) ∙ later next m low near o
 
 module _ (marks : List ℕ) (long : length marks ≡ 512) (number mark : ℕ) where
-  pub mark-same : mark_of (set marks (number % 512) mark) number ≡ mark
-  mark-same = get_or-set_same marks (number % 512) mark 0 (omega arith)
+  pub mark_same : mark_of (set marks (number % 512) mark) number ≡ mark
+  mark_same = get_or-set_same marks (number % 512) mark 0 (omega arith)
 
   pub mark_other : (m : ℕ) → (m % 512 ≡ number % 512 → ⊥) → mark_of (set marks (number % 512) mark) m ≡ mark_of marks m
   mark_other m n = get_or-set_other marks (number % 512) (m % 512) mark 0 n
 
   -- a fact of each mark, after a store
-  pub each-mark : (P : ℕ → ℕ → Type 0) → P (number % 512) mark → ((k : ℕ) → k < 512 → (k ≡ number % 512 → ⊥) → P k (get_or marks k 0))
+  pub each_mark : (P : ℕ → ℕ → Type 0) → P (number % 512) mark → ((k : ℕ) → k < 512 → (k ≡ number % 512 → ⊥) → P k (get_or marks k 0))
       → (k : ℕ) → k < length (set marks (number % 512) mark) → P k (get_or (set marks (number % 512) mark) k 0)
-  each-mark P here there k h =
+  each_mark P here there k h =
       let l : k < length marks = simp length-set at h in
       case
       (λ (e : k ≡ number % 512). rw (e, get_or-set_same marks (number % 512) mark 0 (omega arith)) here)
@@ -65,9 +65,9 @@ module _ (r : Receiver) (long : length r.marks ≡ 512) (f : Ruled r) where
   abbrev marks : List ℕ
   marks = r.marks
 
-  pub accept-keeps : (seq : SeqNo) (size : ℕ) → next ≤ seq.0 → seq.0 - next < 512 → seq.0 ≤ 4294967294 → size ≤ r.head.slot → Ruled (entering r seq size)
+  pub accept_keeps : (seq : SeqNo) (size : ℕ) → next ≤ seq.0 → seq.0 - next < 512 → seq.0 ≤ 4294967294 → size ≤ r.head.slot → Ruled (entering r seq size)
   unfolding entering
-  accept-keeps seq size new near usable fits =
+  accept_keeps seq size new near usable fits =
       let number = seq.0 in
       record {
         one = f.one;
@@ -76,24 +76,24 @@ module _ (r : Receiver) (long : length r.marks ≡ 512) (f : Ruled r) where
         far = omega (arith, f.far);
         top = λ n.
             case
-            (λ (e : max highest number % 512 ≡ number % 512). rw (e, mark-same marks long number (size + 1)) (omega arith))
+            (λ (e : max highest number % 512 ≡ number % 512). rw (e, mark_same marks long number (size + 1)) (omega arith))
             (λ (o : max highest number % 512 ≡ number % 512 → ⊥).
             let m : max highest number ≡ highest =
             case (λ (q : number ≤ highest). omega arith) (λ (q : number ≤ highest → ⊥). absurd (o (ap (λ (x : ℕ). x % 512) (omega arith)))) (dec_le number highest) in
             rw (mark_other marks long number (size + 1) (max highest number) o, m) (f.top (omega (arith, n))))
             (ℕ_discrete (max highest number % 512) (number % 512));
         last = omega (arith, f.last);
-        free = each-mark marks long number (size + 1) (λ (k m : ℕ). max highest number < slot_number next k → m ≡ 0)
+        free = each_mark marks long number (size + 1) (λ (k m : ℕ). max highest number < slot_number next k → m ≡ 0)
             (λ a. absurd (omega arith))
             (λ k h n a. f.free k (omega arith) (omega arith));
-        short = each-mark marks long number (size + 1) (λ (k m : ℕ). m - 1 ≤ r.head.slot)
+        short = each_mark marks long number (size + 1) (λ (k m : ℕ). m - 1 ≤ r.head.slot)
             (omega arith)
             (λ k h n. f.short k (omega arith));
       }
 
-  pub take-keeps : 1 ≤ mark_of marks next → next ≤ highest → Ruled (passing r)
+  pub take_keeps : 1 ≤ mark_of marks next → next ≤ highest → Ruled (passing r)
   unfolding passing
-  take-keeps held below = record {
+  take_keeps held below = record {
     one = omega arith;
     late = omega (arith, f.late);
     low = omega arith;
@@ -102,10 +102,10 @@ module _ (r : Receiver) (long : length r.marks ≡ 512) (f : Ruled r) where
         let o : highest % 512 ≡ next % 512 → ⊥ = apart next highest next below (omega (arith, f.far)) (omega arith) (omega arith) (λ e. n (omega arith)) in
         rw (mark_other marks long next 0 highest o) (f.top (λ e. omega arith));
     last = f.last;
-    free = each-mark marks long next 0 (λ (k m : ℕ). highest < slot_number (next + 1) k → m ≡ 0)
+    free = each_mark marks long next 0 (λ (k m : ℕ). highest < slot_number (next + 1) k → m ≡ 0)
         (λ a. refl)
-        (λ k h n a. f.free k (omega arith) (subst (λ (x : ℕ). highest < x) (number-later next k h n) a));
-    short = each-mark marks long next 0 (λ (k m : ℕ). m - 1 ≤ r.head.slot)
+        (λ k h n a. f.free k (omega arith) (subst (λ (x : ℕ). highest < x) (number_later next k h n) a));
+    short = each_mark marks long next 0 (λ (k m : ℕ). m - 1 ≤ r.head.slot)
         (omega arith)
         (λ k h n. f.short k (omega arith));
   }

@@ -23,9 +23,9 @@ use Rattle.receiver_calls.specs.Take.{take_said, passing, take_of}
 use Rattle.receiver_calls.specs.Meaning.{taken, held, missing, unseen, standing, is_missing, Sound, accept_by, take_by}
 use Rattle.receiver_state.specs.declared.Receiver.{Receiver}
 use Rattle.receiver_state.proofs.Facts.{Ruled, ruled, rules_of_lem, sized}
-use Rattle.receiver_calls.proofs.Outcomes.{slot_in, accept-refused, accept_done, Passed, passed, take-refused, take_done, held-short, Gives, gives}
-use Rattle.receiver_calls.proofs.Keeps.{apart, number_is, mark-same, mark_other, accept-keeps, take-keeps}
-use Rattle.receiver_calls.proofs.Standings.{is-taken, is-unseen, is-missing, is-held, filled-length, filled_here, filled_other}
+use Rattle.receiver_calls.proofs.Outcomes.{slot_in, accept_refused, accept_done, Passed, passed, take_refused, take_done, held_short, Gives, gives}
+use Rattle.receiver_calls.proofs.Keeps.{apart, number_is, mark_same, mark_other, accept_keeps, take_keeps}
+use Rattle.receiver_calls.proofs.Standings.{is_taken, is_unseen, is_missing_lem, is_held_lem, filled_length, filled_here, filled_other}
 
 -- a number lies below next, above highest, or between them with a free or a held slot
 pub where_is : {C : Type 0} (r : Receiver) (n : ℕ) → (n < r.head.next.0 → C) → (r.head.next.0 ≤ n → r.head.highest.0 < n → C)
@@ -43,48 +43,48 @@ pub facts : (r : Receiver) (store : List ℕ) → Sound r store → Ruled r
 facts r store sound = ruled r sound.keeps
 
 -- the bytes of a slot are as many as its mark says
-pub held-length : (r : Receiver) (store : List ℕ) → Sound r store → (n : ℕ) → length (held_bytes r.marks r.head.slot store n) ≡ length_of (mark_of r.marks n)
-held-length r store sound n =
-    let short = held-short r sound.table (facts r store sound) n in
+pub held_length : (r : Receiver) (store : List ℕ) → Sound r store → (n : ℕ) → length (held_bytes r.marks r.head.slot store n) ≡ length_of (mark_of r.marks n)
+held_length r store sound n =
+    let short = held_short r sound.table (facts r store sound) n in
     let sizes = sized r.head.slot (length store) sound.fits in
     simp (length-take, length-drop) (omega (arith, slot_in r.head.slot n (length store) sizes.store))
 
 -- where a number lies, from its standing
 module _ (r : Receiver) (store : List ℕ) (n : ℕ) where
-  pub taken-below : standing r store n ≡ taken → n < r.head.next.0
-  taken-below e =
+  pub taken_below : standing r store n ≡ taken → n < r.head.next.0
+  taken_below e =
       where_is r n (λ a. a)
-      (λ a b. let s = is-unseen r store n a b in let z : ◌≡◌ {A = ℕ} 0 1 = cc in absurd (omega arith))
-      (λ a b f. let s = is-missing r store n a b f in let z : ◌≡◌ {A = ℕ} 0 1 = cc in absurd (omega arith))
-      (λ a b f. let s = is-held r store n a b f in let z : ◌≡◌ {A = ℕ} 0 1 = cc in absurd (omega arith))
+      (λ a b. let s = is_unseen r store n a b in let z : ◌≡◌ {A = ℕ} 0 1 = cc in absurd (omega arith))
+      (λ a b f. let s = is_missing_lem r store n a b f in let z : ◌≡◌ {A = ℕ} 0 1 = cc in absurd (omega arith))
+      (λ a b f. let s = is_held_lem r store n a b f in let z : ◌≡◌ {A = ℕ} 0 1 = cc in absurd (omega arith))
 
   pub unseen_above : standing r store n ≡ unseen → r.head.highest.0 < n
   unseen_above e =
       where_is r n
-      (λ a. let s = is-taken r store n a in let z : ◌≡◌ {A = ℕ} 0 1 = cc in absurd (omega arith))
+      (λ a. let s = is_taken r store n a in let z : ◌≡◌ {A = ℕ} 0 1 = cc in absurd (omega arith))
       (λ a b. b)
-      (λ a b f. let s = is-missing r store n a b f in let z : ◌≡◌ {A = ℕ} 0 1 = cc in absurd (omega arith))
-      (λ a b f. let s = is-held r store n a b f in let z : ◌≡◌ {A = ℕ} 0 1 = cc in absurd (omega arith))
+      (λ a b f. let s = is_missing_lem r store n a b f in let z : ◌≡◌ {A = ℕ} 0 1 = cc in absurd (omega arith))
+      (λ a b f. let s = is_held_lem r store n a b f in let z : ◌≡◌ {A = ℕ} 0 1 = cc in absurd (omega arith))
 
   pub above_unseen : Sound r store → r.head.highest.0 < n → standing r store n ≡ unseen
-  above_unseen sound b = is-unseen r store n (omega (arith, (facts r store sound).low)) b
+  above_unseen sound b = is_unseen r store n (omega (arith, (facts r store sound).low)) b
 
   -- missing, with no store to look at
-  pub missing-told : is_missing r n ≡ true → standing r store n ≡ missing
-  missing-told t =
+  pub missing_told : is_missing r n ≡ true → standing r store n ≡ missing
+  missing_told t =
       let inner = and_right (leb r.head.next.0 n) (leb n r.head.highest.0 && is_free (mark_of r.marks n)) t in
-      is-missing r store n
+      is_missing_lem r store n
       (leb-true r.head.next.0 n (and_left (leb r.head.next.0 n) (leb n r.head.highest.0 && is_free (mark_of r.marks n)) t))
       (leb-true n r.head.highest.0 (and_left (leb n r.head.highest.0) (is_free (mark_of r.marks n)) inner))
       (eqb-true (mark_of r.marks n) 0 (and_right (leb n r.head.highest.0) (is_free (mark_of r.marks n)) inner))
 
-  pub told-missing : standing r store n ≡ missing → is_missing r n ≡ true
-  told-missing e =
+  pub told_missing : standing r store n ≡ missing → is_missing r n ≡ true
+  told_missing e =
       where_is r n
-      (λ a. let s = is-taken r store n a in let z : ◌≡◌ {A = ℕ} 0 1 = cc in absurd (omega arith))
-      (λ a b. let s = is-unseen r store n a b in let z : ◌≡◌ {A = ℕ} 0 1 = cc in absurd (omega arith))
+      (λ a. let s = is_taken r store n a in let z : ◌≡◌ {A = ℕ} 0 1 = cc in absurd (omega arith))
+      (λ a b. let s = is_unseen r store n a b in let z : ◌≡◌ {A = ℕ} 0 1 = cc in absurd (omega arith))
       (λ a b f. simp (le-leb r.head.next.0 n a, le-leb n r.head.highest.0 b, eq-eqb (mark_of r.marks n) 0 f))
-      (λ a b f. let s = is-held r store n a b f in let z : ◌≡◌ {A = ℕ} 0 1 = cc in absurd (omega arith))
+      (λ a b f. let s = is_held_lem r store n a b f in let z : ◌≡◌ {A = ℕ} 0 1 = cc in absurd (omega arith))
 
 -- neither the rules nor the sizes were at fault
 Fair : Said → Type 0
@@ -106,17 +106,17 @@ module _ (r : Receiver) where
   unfolding accept_of accept_said
   accept_broken number payload store e = simp e
 
-  pub accept-unfit : (number : SeqNo) (payload store : List ℕ) → rules_of r ≡ true → sizes_fit r.head.slot (length store) ≡ false → (accept_of r number payload store).says ≡ refusal 10
+  pub accept_unfit : (number : SeqNo) (payload store : List ℕ) → rules_of r ≡ true → sizes_fit r.head.slot (length store) ≡ false → (accept_of r number payload store).says ≡ refusal 10
   unfolding accept_of accept_said
-  accept-unfit number payload store e f = simp (e, f)
+  accept_unfit number payload store e f = simp (e, f)
 
   pub take_broken : (store output : List ℕ) → rules_of r ≡ false → (take_of r store output).says ≡ refusal 11
   unfolding take_of take_said
   take_broken store output e = simp e
 
-  pub take-unfit : (store output : List ℕ) → rules_of r ≡ true → sizes_fit r.head.slot (length store) ≡ false → (take_of r store output).says ≡ refusal 10
+  pub take_unfit : (store output : List ℕ) → rules_of r ≡ true → sizes_fit r.head.slot (length store) ≡ false → (take_of r store output).says ≡ refusal 10
   unfolding take_of take_said
-  take-unfit store output e f = simp (e, f)
+  take_unfit store output e f = simp (e, f)
 
 -- an answer is a refusal or gives values
 pub by_said : {C : Type 0} (answer : Said) → ((n : ℕ) → answer ≡ refusal n → C) → ((given : List ℕ) → answer ≡ values given → C) → C
@@ -127,25 +127,25 @@ by_said (values given) f g = g given refl
 
 module _ (s : SeqNo) (slot : ℕ) (store : List ℕ) where
   -- a refused start leaves a state that no rule allows
-  pub start-refused : (n : ℕ) → (start_of s slot (length store)).says ≡ refusal n → (start_of s slot (length store)).state ≡ unusable
-  start-refused n e = rw e
+  pub start_refused : (n : ℕ) → (start_of s slot (length store)).says ≡ refusal n → (start_of s slot (length store)).state ≡ unusable
+  start_refused n e = rw e
 
   module _ (done : (start_of s slot (length store)).says ≡ values []) where
     pub start_done : (start_of s slot (length store)).state ≡ fresh s slot
     start_done = rw done
 
     -- up to s a number counts as taken, and above s it is not yet seen
-    pub start-standing : (n : ℕ) → standing (start_of s slot (length store)).state store n ≡ (taken when leb n s.0 else unseen)
-    start-standing n =
+    pub start_standing : (n : ℕ) → standing (start_of s slot (length store)).state store n ≡ (taken when leb n s.0 else unseen)
+    start_standing n =
         rw start_done
         (case
-        (λ (a : n ≤ s.0). rw (le-leb n s.0 a) (is-taken (fresh s slot) store n (omega arith)))
-        (λ (a : n ≤ s.0 → ⊥). rw (lt-leb n s.0 (omega arith)) (is-unseen (fresh s slot) store n (omega arith) (omega arith)))
+        (λ (a : n ≤ s.0). rw (le-leb n s.0 a) (is_taken (fresh s slot) store n (omega arith)))
+        (λ (a : n ≤ s.0 → ⊥). rw (lt-leb n s.0 (omega arith)) (is_unseen (fresh s slot) store n (omega arith) (omega arith)))
         (dec_le n s.0))
 
-    pub start-sound : s.0 ≤ 4294967295 → Sound (start_of s slot (length store)).state store
+    pub start_sound : s.0 ≤ 4294967295 → Sound (start_of s slot (length store)).state store
     unfolding start_said
-    start-sound width =
+    start_sound width =
         let p10 = past 10 (not (sizes_fit slot (length store))) _ [] done in
         let p12 = past 12 (eqb s.0 4294967295) (values []) [] p10.1 in
         let usable = eqb-false s.0 4294967295 p12.0 in
@@ -180,19 +180,19 @@ pub record Entered (r : Receiver) (number : SeqNo) (payload store : List ℕ) : 
   pub others : (m : ℕ) → (m ≡ number.0 → ⊥)
       → standing (accept_of r number payload store).state (accept_of r number payload store).lent m
       ≡ (missing when ltb r.head.highest.0 m && ltb m number.0 else standing r store m)
-  pub next-is : (accept_of r number payload store).state.head.next ≡ r.head.next
-  pub highest-is : (accept_of r number payload store).state.head.highest.0 ≡ max r.head.highest.0 number.0
+  pub next_is : (accept_of r number payload store).state.head.next ≡ r.head.next
+  pub highest_is : (accept_of r number payload store).state.head.highest.0 ≡ max r.head.highest.0 number.0
 
 module _ (r : Receiver) (number : SeqNo) (payload store : List ℕ) where
-  accept-is : accept_said r number (length payload) (length store) ≡ (accept_of r number payload store).says
+  accept_is : accept_said r number (length payload) (length store) ≡ (accept_of r number payload store).says
   unfolding accept_of
-  accept-is = refl
+  accept_is = refl
 
   -- a refusal changes nothing
-  pub accept-nothing : (n : ℕ) → (accept_of r number payload store).says ≡ refusal n
+  pub accept_nothing : (n : ℕ) → (accept_of r number payload store).says ≡ refusal n
       → ((accept_of r number payload store).state ≡ r) × ((accept_of r number payload store).lent ≡ store)
-  accept-nothing n e =
-      let k = accept-refused r number payload store n (accept-is ∙ e) in
+  accept_nothing n e =
+      let k = accept_refused r number payload store n (accept_is ∙ e) in
       (rw k, rw k)
 
   -- the state with the payload held
@@ -203,11 +203,11 @@ module _ (r : Receiver) (number : SeqNo) (payload store : List ℕ) where
     became : ((accept_of r number payload store).state ≡ here) × ((accept_of r number payload store).lent ≡ filled store r.head.slot number.0 payload)
     unfolding entering
     became =
-        let k = accept_done r number payload store given (accept-is ∙ done) in
+        let k = accept_done r number payload store given (accept_is ∙ done) in
         (rw k, rw k)
 
     ok : Passed r number (length payload) (length store) given
-    ok = passed r number (length payload) (length store) given (accept-is ∙ done)
+    ok = passed r number (length payload) (length store) given (accept_is ∙ done)
 
     -- the payload lies within the store
     inside : offset_of r.head.slot number.0 + length payload ≤ length store
@@ -218,9 +218,9 @@ module _ (r : Receiver) (number : SeqNo) (payload store : List ℕ) where
       unfolding entering
       now_here =
           let p = ok in
-          let same = mark-same r.marks sound.table number.0 (length payload + 1) in
+          let same = mark_same r.marks sound.table number.0 (length payload + 1) in
           let e : length_of (length payload + 1) ≡ length payload = omega arith in
-          is-held here (filled store r.head.slot number.0 payload) number.0 p.new (omega arith) (λ z. omega (arith, same))
+          is_held_lem here (filled store r.head.slot number.0 payload) number.0 p.new (omega arith) (λ z. omega (arith, same))
           ∙ ap held (rw (same, e) (filled_here store r.head.slot number.0 payload inside))
 
       now_there : (m : ℕ) → (m ≡ number.0 → ⊥)
@@ -231,30 +231,30 @@ module _ (r : Receiver) (number : SeqNo) (payload store : List ℕ) where
           let f = facts r store sound in
           let after = filled store r.head.slot number.0 payload in
           where_is r m
-          (λ a. is-taken here after m a ∙ sym (rw (le-ltb r.head.highest.0 m (omega (arith, f.low))) (is-taken r store m a)))
+          (λ a. is_taken here after m a ∙ sym (rw (le-ltb r.head.highest.0 m (omega (arith, f.low))) (is_taken r store m a)))
           (λ a b.
           case
           (λ (q : m < number.0).
           let o = apart r.head.next.0 m number.0 a (omega arith) p.new p.near other in
           let z : mark_of r.marks m ≡ 0 = f.free (m % 512) (omega (arith, sound.table)) (omega (arith, number_is r.head.next.0 m a (omega arith))) in
-          is-missing here after m a (omega arith) (mark_other r.marks sound.table number.0 (length payload + 1) m o ∙ z)
+          is_missing_lem here after m a (omega arith) (mark_other r.marks sound.table number.0 (length payload + 1) m o ∙ z)
           ∙ sym (rw (lt-ltb r.head.highest.0 m b, lt-ltb m number.0 q)))
           (λ (q : m < number.0 → ⊥).
-          is-unseen here after m a (omega (arith, other)) ∙ sym (rw (lt-ltb r.head.highest.0 m b, le-ltb m number.0 (omega arith)) (is-unseen r store m a b)))
+          is_unseen here after m a (omega (arith, other)) ∙ sym (rw (lt-ltb r.head.highest.0 m b, le-ltb m number.0 (omega arith)) (is_unseen r store m a b)))
           (dec_lt m number.0))
           (λ a b z.
           let o = apart r.head.next.0 m number.0 a (omega (arith, f.far)) p.new p.near other in
-          is-missing here after m a (omega arith) (mark_other r.marks sound.table number.0 (length payload + 1) m o ∙ z)
-          ∙ sym (rw (le-ltb r.head.highest.0 m b) (is-missing r store m a b z)))
+          is_missing_lem here after m a (omega arith) (mark_other r.marks sound.table number.0 (length payload + 1) m o ∙ z)
+          ∙ sym (rw (le-ltb r.head.highest.0 m b) (is_missing_lem r store m a b z)))
           (λ a b z.
           let o = apart r.head.next.0 m number.0 a (omega (arith, f.far)) p.new p.near other in
           let k = mark_other r.marks sound.table number.0 (length payload + 1) m o in
           let same : held_bytes (set r.marks (number.0 % 512) (length payload + 1)) r.head.slot after m ≡ held_bytes r.marks r.head.slot store m =
           rw k
           (filled_other store r.head.slot number.0 payload inside m (length_of (mark_of r.marks m))
-          (held-short r sound.table f m) p.fits o) in
-          is-held here after m a (omega arith) (λ e. z (sym k ∙ e)) ∙ ap held same
-          ∙ sym (rw (le-ltb r.head.highest.0 m b) (is-held r store m a b z)))
+          (held_short r sound.table f m) p.fits o) in
+          is_held_lem here after m a (omega arith) (λ e. z (sym k ∙ e)) ∙ ap held same
+          ∙ sym (rw (le-ltb r.head.highest.0 m b) (is_held_lem r store m a b z)))
 
       pub accept_changes : Entered r number payload store
       unfolding entering
@@ -263,61 +263,61 @@ module _ (r : Receiver) (number : SeqNo) (payload store : List ℕ) where
           record {
             was = where_is r number.0
                 (λ a. absurd (omega arith))
-                (λ a b. inr (is-unseen r store number.0 a b))
-                (λ a b z. inl (is-missing r store number.0 a b z))
+                (λ a b. inr (is_unseen r store number.0 a b))
+                (λ a b z. inl (is_missing_lem r store number.0 a b z))
                 (λ a b z. absurd (z p.free));
             now_held = rw (became.0, became.1) now_here;
             others = λ m o. rw (became.0, became.1) (now_there m o);
-            next-is = ap (λ (x : Receiver). x.head.next) became.0;
-            highest-is = ap (λ (x : Receiver). x.head.highest.0) became.0;
+            next_is = ap (λ (x : Receiver). x.head.next) became.0;
+            highest_is = ap (λ (x : Receiver). x.head.highest.0) became.0;
           }
 
-      entering-sound : number.0 ≤ 4294967295 → Sound here (filled store r.head.slot number.0 payload)
+      entering_sound : number.0 ≤ 4294967295 → Sound here (filled store r.head.slot number.0 payload)
       unfolding entering
-      entering-sound width =
+      entering_sound width =
           let p = ok in
           record {
             table = simp length-set sound.table;
             keeps = rules_of_lem here
-                (accept-keeps r sound.table (facts r store sound) number (length payload)
+                (accept_keeps r sound.table (facts r store sound) number (length payload)
                 p.new p.near (omega (arith, p.usable)) p.fits);
-            fits = rw (filled-length store r.head.slot number.0 payload inside) sound.fits;
+            fits = rw (filled_length store r.head.slot number.0 payload inside) sound.fits;
           }
 
   -- accept keeps a sound state and store sound, whatever it is given
-  pub accept-sound : Sound r store → number.0 ≤ 4294967295 → Sound (accept_of r number payload store).state (accept_of r number payload store).lent
-  accept-sound sound width =
+  pub accept_sound : Sound r store → number.0 ≤ 4294967295 → Sound (accept_of r number payload store).state (accept_of r number payload store).lent
+  accept_sound sound width =
       by_said (accept_of r number payload store).says
-      (λ n e. let k = accept-nothing n e in rw (k.0, k.1) sound)
-      (λ given e. let k = became given e in rw (k.0, k.1) (entering-sound given e sound width))
+      (λ n e. let k = accept_nothing n e in rw (k.0, k.1) sound)
+      (λ given e. let k = became given e in rw (k.0, k.1) (entering_sound given e sound width))
 
   -- its answer: 12, or by the standing of the number, so never 11 or 10
-  pub accept-answer : Sound r store
+  pub accept_answer : Sound r store
       → (accept_of r number payload store).says ≡ (refusal 12 when eqb number.0 4294967295 else accept_by (standing r store number.0) r number.0 (length payload))
   unfolding accept_said
-  accept-answer sound =
+  accept_answer sound =
       let f = facts r store sound in
-      sym accept-is ∙ rw (sound.keeps, sound.fits)
+      sym accept_is ∙ rw (sound.keeps, sound.fits)
       (ap (λ (rest : Said). refusal 12 when eqb number.0 4294967295 else rest)
       (where_is r number.0
-      (λ a. rw (lt-ltb _ _ a, is-taken r store number.0 a))
+      (λ a. rw (lt-ltb _ _ a, is_taken r store number.0 a))
       (λ a b.
       case
-      (λ (q : 512 ≤ number.0 - r.head.next.0). rw (le-ltb _ _ a, is-unseen r store number.0 a b, le-leb 512 (number.0 - r.head.next.0) q))
+      (λ (q : 512 ≤ number.0 - r.head.next.0). rw (le-ltb _ _ a, is_unseen r store number.0 a b, le-leb 512 (number.0 - r.head.next.0) q))
       (λ (q : 512 ≤ number.0 - r.head.next.0 → ⊥).
       let z : mark_of r.marks number.0 ≡ 0 =
       f.free (number.0 % 512) (omega (arith, sound.table)) (omega (arith, number_is r.head.next.0 number.0 a (omega arith))) in
-      rw (le-ltb _ _ a, is-unseen r store number.0 a b, lt-leb 512 (number.0 - r.head.next.0) (omega arith), eq-eqb _ _ z))
+      rw (le-ltb _ _ a, is_unseen r store number.0 a b, lt-leb 512 (number.0 - r.head.next.0) (omega arith), eq-eqb _ _ z))
       (dec_le 512 (number.0 - r.head.next.0)))
-      (λ a b z. rw (le-ltb _ _ a, is-missing r store number.0 a b z, lt-leb 512 (number.0 - r.head.next.0) (omega (arith, f.far)), eq-eqb _ _ z))
-      (λ a b z. rw (le-ltb _ _ a, is-held r store number.0 a b z, lt-leb 512 (number.0 - r.head.next.0) (omega (arith, f.far)), ne_eqb _ _ z))))
+      (λ a b z. rw (le-ltb _ _ a, is_missing_lem r store number.0 a b z, lt-leb 512 (number.0 - r.head.next.0) (omega (arith, f.far)), eq-eqb _ _ z))
+      (λ a b z. rw (le-ltb _ _ a, is_held_lem r store number.0 a b z, lt-leb 512 (number.0 - r.head.next.0) (omega (arith, f.far)), ne_eqb _ _ z))))
 
   -- none of its refusals is then 11 or 10
   pub accept_fair : Sound r store → (n : ℕ) → (accept_of r number payload store).says ≡ refusal n → (n ≡ 11 → ⊥) × (n ≡ 10 → ⊥)
   unfolding accept_said Fair
   accept_fair sound =
       fair (accept_of r number payload store).says
-      (subst Fair (accept-is)
+      (subst Fair (accept_is)
       (rw (sound.keeps, sound.fits)
       (rung 12 (eqb number.0 4294967295) _ (λ e. omega arith) (λ e. omega arith)
       (rung 13 (ltb number.0 r.head.next.0) _ (λ e. omega arith) (λ e. omega arith)
@@ -333,32 +333,32 @@ pub record Took (r : Receiver) (store output given : List ℕ) : Type 0 where
   pub bytes : List ℕ
   pub was : standing r store r.head.next.0 ≡ held bytes
   pub counted : given ≡ length bytes ∷ []
-  pub output-is : (take_of r store output).lent ≡ bytes at_front_of output
+  pub output_is : (take_of r store output).lent ≡ bytes at_front_of output
   pub others : (m : ℕ) → standing (take_of r store output).state store m ≡ (taken when eqb m r.head.next.0 else standing r store m)
-  pub next-is : (take_of r store output).state.head.next.0 ≡ r.head.next.0 + 1
-  pub highest-is : (take_of r store output).state.head.highest ≡ r.head.highest
+  pub next_is : (take_of r store output).state.head.next.0 ≡ r.head.next.0 + 1
+  pub highest_is : (take_of r store output).state.head.highest ≡ r.head.highest
 
 module _ (r : Receiver) (store output : List ℕ) where
-  take-is : take_said r (length store) (length output) ≡ (take_of r store output).says
+  take_is : take_said r (length store) (length output) ≡ (take_of r store output).says
   unfolding take_of
-  take-is = refl
+  take_is = refl
 
   -- a refusal changes nothing
-  pub take-nothing : (n : ℕ) → (take_of r store output).says ≡ refusal n → ((take_of r store output).state ≡ r) × ((take_of r store output).lent ≡ output)
-  take-nothing n e =
-      let k = take-refused r store output n (take-is ∙ e) in
+  pub take_nothing : (n : ℕ) → (take_of r store output).says ≡ refusal n → ((take_of r store output).state ≡ r) × ((take_of r store output).lent ≡ output)
+  take_nothing n e =
+      let k = take_refused r store output n (take_is ∙ e) in
       (rw k, rw k)
 
   module _ (given : List ℕ) (done : (take_of r store output).says ≡ values given) where
     passed_on : ((take_of r store output).state ≡ passing r) × ((take_of r store output).lent ≡ held_bytes r.marks r.head.slot store r.head.next.0 at_front_of output)
     unfolding passing
     passed_on =
-        let k = take_done r store output given (take-is ∙ done) in
+        let k = take_done r store output given (take_is ∙ done) in
         (rw k, rw k)
 
     module _ (sound : Sound r store) where
       gave : Gives r (length store) (length output) given
-      gave = gives r (length store) (length output) given sound.table (take-is ∙ done)
+      gave = gives r (length store) (length output) given sound.table (take_is ∙ done)
 
       left_there : (m : ℕ) → standing (passing r) store m ≡ (taken when eqb m r.head.next.0 else standing r store m)
       unfolding passing
@@ -366,19 +366,19 @@ module _ (r : Receiver) (store output : List ℕ) where
           let g = gave in
           let f = facts r store sound in
           case
-          (λ (e : m ≡ r.head.next.0). rw (eq-eqb m r.head.next.0 e) (is-taken (passing r) store m (omega arith)))
+          (λ (e : m ≡ r.head.next.0). rw (eq-eqb m r.head.next.0 e) (is_taken (passing r) store m (omega arith)))
           (λ (n : m ≡ r.head.next.0 → ⊥).
           rw (ne_eqb m r.head.next.0 n)
           (where_is r m
-          (λ a. is-taken (passing r) store m (omega arith) ∙ sym (is-taken r store m a))
-          (λ a b. is-unseen (passing r) store m (omega (arith, n)) b ∙ sym (is-unseen r store m a b))
+          (λ a. is_taken (passing r) store m (omega arith) ∙ sym (is_taken r store m a))
+          (λ a b. is_unseen (passing r) store m (omega (arith, n)) b ∙ sym (is_unseen r store m a b))
           (λ a b z.
           let k = mark_other r.marks sound.table r.head.next.0 0 m (apart r.head.next.0 m r.head.next.0 a (omega (arith, f.far)) (omega arith) (omega arith) n) in
-          is-missing (passing r) store m (omega (arith, n)) b (k ∙ z) ∙ sym (is-missing r store m a b z))
+          is_missing_lem (passing r) store m (omega (arith, n)) b (k ∙ z) ∙ sym (is_missing_lem r store m a b z))
           (λ a b z.
           let k = mark_other r.marks sound.table r.head.next.0 0 m (apart r.head.next.0 m r.head.next.0 a (omega (arith, f.far)) (omega arith) (omega arith) n) in
           let same : held_bytes (set r.marks (r.head.next.0 % 512) 0) r.head.slot store m ≡ held_bytes r.marks r.head.slot store m = rw k in
-          is-held (passing r) store m (omega (arith, n)) b (λ e. z (sym k ∙ e)) ∙ ap held same ∙ sym (is-held r store m a b z))))
+          is_held_lem (passing r) store m (omega (arith, n)) b (λ e. z (sym k ∙ e)) ∙ ap held same ∙ sym (is_held_lem r store m a b z))))
           (ℕ_discrete m r.head.next.0)
 
       pub take_changes : Took r store output given
@@ -387,52 +387,52 @@ module _ (r : Receiver) (store output : List ℕ) where
           let g = gave in
           record {
             bytes = held_bytes r.marks r.head.slot store r.head.next.0;
-            was = is-held r store r.head.next.0 (omega arith) g.below (λ e. omega (arith, g.held));
-            counted = let i = g.is in rw (held-length r store sound r.head.next.0) (cc);
-            output-is = passed_on.1;
+            was = is_held_lem r store r.head.next.0 (omega arith) g.below (λ e. omega (arith, g.held));
+            counted = let i = g.is in rw (held_length r store sound r.head.next.0) (cc);
+            output_is = passed_on.1;
             others = λ m. rw passed_on.0 (left_there m);
-            next-is = ap (λ (x : Receiver). x.head.next.0) passed_on.0;
-            highest-is = ap (λ (x : Receiver). x.head.highest) passed_on.0;
+            next_is = ap (λ (x : Receiver). x.head.next.0) passed_on.0;
+            highest_is = ap (λ (x : Receiver). x.head.highest) passed_on.0;
           }
 
-      passing-sound : Sound (passing r) store
+      passing_sound : Sound (passing r) store
       unfolding passing
-      passing-sound =
+      passing_sound =
           let g = gave in
           record {
             table = simp length-set sound.table;
             keeps = rules_of_lem (passing r)
-                (take-keeps r sound.table (facts r store sound) g.held g.below);
+                (take_keeps r sound.table (facts r store sound) g.held g.below);
             fits = sound.fits;
           }
 
   -- take keeps a sound state and store sound, whatever it is given
-  pub take-sound : Sound r store → Sound (take_of r store output).state store
-  take-sound sound =
+  pub take_sound : Sound r store → Sound (take_of r store output).state store
+  take_sound sound =
       by_said (take_of r store output).says
-      (λ n e. rw (take-nothing n e).0 sound)
-      (λ given e. rw (passed_on given e).0 (passing-sound given e sound))
+      (λ n e. rw (take_nothing n e).0 sound)
+      (λ given e. rw (passed_on given e).0 (passing_sound given e sound))
 
   -- its answer: by the standing of the next number, so never 11 or 10
-  pub take-answer : Sound r store → (take_of r store output).says ≡ take_by (standing r store r.head.next.0) (length output)
+  pub take_answer : Sound r store → (take_of r store output).says ≡ take_by (standing r store r.head.next.0) (length output)
   unfolding take_said
-  take-answer sound =
+  take_answer sound =
       let f = facts r store sound in
       let next = r.head.next.0 in
-      sym take-is ∙ rw (sound.keeps, sound.fits)
+      sym take_is ∙ rw (sound.keeps, sound.fits)
       (where_is r next
       (λ a. absurd (omega arith))
       (λ a b.
       let z : mark_of r.marks next ≡ 0 = f.free (next % 512) (omega (arith, sound.table)) (omega (arith, number_is next next a (omega arith))) in
-      rw (is-unseen r store next a b, eq-eqb _ _ z))
-      (λ a b z. rw (is-missing r store next a b z, eq-eqb _ _ z))
-      (λ a b z. rw (is-held r store next a b z, ne_eqb _ _ z, held-length r store sound next)))
+      rw (is_unseen r store next a b, eq-eqb _ _ z))
+      (λ a b z. rw (is_missing_lem r store next a b z, eq-eqb _ _ z))
+      (λ a b z. rw (is_held_lem r store next a b z, ne_eqb _ _ z, held_length r store sound next)))
 
   pub take_fair : Sound r store → (n : ℕ) → (take_of r store output).says ≡ refusal n → (n ≡ 11 → ⊥) × (n ≡ 10 → ⊥)
   unfolding take_said Fair
   take_fair sound =
       fair (take_of r store output).says
-      (subst Fair (take-is)
+      (subst Fair (take_is)
       (rw (sound.keeps, sound.fits)
       (rung 17 (is_free (mark_of r.marks r.head.next.0)) _ (λ e. omega arith) (λ e. omega arith)
       (rung 7 (ltb (length output) (length_of (mark_of r.marks r.head.next.0))) _ (λ e. omega arith) (λ e. omega arith) tt))))
@@ -441,34 +441,34 @@ module _ (r : Receiver) (store output : List ℕ) where
 
 -- a start's slot size, next to take and highest
 module _ (s : SeqNo) (slot : ℕ) (store : List ℕ) (done : (start_of s slot (length store)).says ≡ values []) where
-  pub start-slot : (start_of s slot (length store)).state.head.slot ≡ slot
-  start-slot = ap (λ (x : Receiver). x.head.slot) (start_done s slot store done)
+  pub start_slot : (start_of s slot (length store)).state.head.slot ≡ slot
+  start_slot = ap (λ (x : Receiver). x.head.slot) (start_done s slot store done)
 
-  pub start-next : (start_of s slot (length store)).state.head.next.0 ≡ s.0 + 1
-  start-next = ap (λ (x : Receiver). x.head.next.0) (start_done s slot store done)
+  pub start_next : (start_of s slot (length store)).state.head.next.0 ≡ s.0 + 1
+  start_next = ap (λ (x : Receiver). x.head.next.0) (start_done s slot store done)
 
-  pub start-highest : (start_of s slot (length store)).state.head.highest.0 ≡ s.0
-  start-highest = ap (λ (x : Receiver). x.head.highest.0) (start_done s slot store done)
+  pub start_highest : (start_of s slot (length store)).state.head.highest.0 ≡ s.0
+  start_highest = ap (λ (x : Receiver). x.head.highest.0) (start_done s slot store done)
 
 -- neither accept nor take changes the slot size
-pub accept-slot : (r : Receiver) (number : SeqNo) (payload store : List ℕ) → (accept_of r number payload store).state.head.slot ≡ r.head.slot
+pub accept_slot : (r : Receiver) (number : SeqNo) (payload store : List ℕ) → (accept_of r number payload store).state.head.slot ≡ r.head.slot
 unfolding entering
-accept-slot r number payload store =
+accept_slot r number payload store =
     by_said (accept_of r number payload store).says
-    (λ n e. ap (λ (x : Receiver). x.head.slot) (accept-nothing r number payload store n e).0)
+    (λ n e. ap (λ (x : Receiver). x.head.slot) (accept_nothing r number payload store n e).0)
     (λ given e. ap (λ (x : Receiver). x.head.slot) (became r number payload store given e).0)
 
-pub take-slot : (r : Receiver) (store output : List ℕ) → (take_of r store output).state.head.slot ≡ r.head.slot
+pub take_slot : (r : Receiver) (store output : List ℕ) → (take_of r store output).state.head.slot ≡ r.head.slot
 unfolding passing
-take-slot r store output =
+take_slot r store output =
     by_said (take_of r store output).says
-    (λ n e. ap (λ (x : Receiver). x.head.slot) (take-nothing r store output n e).0)
+    (λ n e. ap (λ (x : Receiver). x.head.slot) (take_nothing r store output n e).0)
     (λ given e. ap (λ (x : Receiver). x.head.slot) (passed_on r store output given e).0)
 
 -- it is in range,
-pub slot-fits : (r : Receiver) (store : List ℕ) → Sound r store → slot_fits r.head.slot ≡ true
+pub slot_fits_lem : (r : Receiver) (store : List ℕ) → Sound r store → slot_fits r.head.slot ≡ true
 unfolding sizes_fit
-slot-fits r store sound = and_left (slot_fits r.head.slot) (eqb (length store) (512 * r.head.slot)) sound.fits
+slot_fits_lem r store sound = and_left (slot_fits r.head.slot) (eqb (length store) (512 * r.head.slot)) sound.fits
 
 -- and it tells the store's length
 pub store_length : (r : Receiver) (store : List ℕ) → Sound r store → length store ≡ 512 * r.head.slot

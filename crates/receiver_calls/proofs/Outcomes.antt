@@ -36,9 +36,9 @@ slot_in slot number store_length e =
     omega (arith, mul-le-mul_right slot h)
 
 module _ (r : Receiver) (number : SeqNo) (payload store : List ℕ) where
-  pub accept-refused : (n : ℕ) → accept_said r number (length payload) (length store) ≡ refusal n → accept_of r number payload store ≡ record { says = refusal n; state = r; lent = store }
+  pub accept_refused : (n : ℕ) → accept_said r number (length payload) (length store) ≡ refusal n → accept_of r number payload store ≡ record { says = refusal n; state = r; lent = store }
   unfolding accept_of
-  accept-refused n e = simp e
+  accept_refused n e = simp e
 
   pub accept_done : (given : List ℕ) → accept_said r number (length payload) (length store) ≡ values given
       → accept_of r number payload store ≡ record { says = values given; state = entering r number (length payload); lent = filled store r.head.slot number.0 payload }
@@ -47,10 +47,10 @@ module _ (r : Receiver) (number : SeqNo) (payload store : List ℕ) where
 
   -- the same of an answer in hand: where it is a refusal, and where it is done
   module _ (answer : Answer) (judged : said answer ≡ accept_said r number (length payload) (length store)) where
-    pub accept-kept : (why : Refusal) → answer ≡ A.Refused why → ◌≡◌ {A = Outcome} (record { says = said answer; state = r; lent = store }) (accept_of r number payload store)
-    accept-kept why is = rw is (sym (accept-refused (number_of why) (sym judged ∙ ap said is)))
+    pub accept_kept : (why : Refusal) → answer ≡ A.Refused why → ◌≡◌ {A = Outcome} (record { says = said answer; state = r; lent = store }) (accept_of r number payload store)
+    accept_kept why is = rw is (sym (accept_refused (number_of why) (sym judged ∙ ap said is)))
 
-    pub accept-made : answer ≡ A.Done → (head : Head) → head ≡ holding r.head number
+    pub accept_made : answer ≡ A.Done → (head : Head) → head ≡ holding r.head number
         → (after : List ℕ) → after ≡ payload at_front_of take (length store - offset_of r.head.slot number.0) (drop (offset_of r.head.slot number.0) store)
         → ◌≡◌ {A = Outcome}
         (record {
@@ -60,7 +60,7 @@ module _ (r : Receiver) (number : SeqNo) (payload store : List ℕ) where
         })
         (accept_of r number payload store)
     unfolding entering
-    accept-made is head t after a = rw (is, t, rest_back store payload after (offset_of r.head.slot number.0) a) (sym (accept_done [] (sym judged ∙ ap said is)))
+    accept_made is head t after a = rw (is, t, rest_back store payload after (offset_of r.head.slot number.0) a) (sym (accept_done [] (sym judged ∙ ap said is)))
 
 -- what holds where a payload is accepted
 pub record Passed (r : Receiver) (number : SeqNo) (size store_length : ℕ) (given : List ℕ) : Type 0 where
@@ -96,9 +96,9 @@ passed r number size store_length given h =
     }
 
 module _ (r : Receiver) (store output : List ℕ) where
-  pub take-refused : (n : ℕ) → take_said r (length store) (length output) ≡ refusal n → take_of r store output ≡ record { says = refusal n; state = r; lent = output }
+  pub take_refused : (n : ℕ) → take_said r (length store) (length output) ≡ refusal n → take_of r store output ≡ record { says = refusal n; state = r; lent = output }
   unfolding take_of
-  take-refused n e = simp e
+  take_refused n e = simp e
 
   pub take_done : (given : List ℕ) → take_said r (length store) (length output) ≡ values given
       → take_of r store output ≡ record { says = values given; state = passing r; lent = next_bytes r store at_front_of output }
@@ -106,14 +106,14 @@ module _ (r : Receiver) (store output : List ℕ) where
   take_done given e = simp e
 
   module _ (answer : Given) (judged : said_of answer ≡ take_said r (length store) (length output)) where
-    pub take-kept : (why : Refusal) → answer ≡ G.Refused why → ◌≡◌ {A = Outcome} (record { says = said_of answer; state = r; lent = output }) (take_of r store output)
-    take-kept why is = rw is (sym (take-refused (number_of why) (sym judged ∙ ap said_of is)))
+    pub take_kept : (why : Refusal) → answer ≡ G.Refused why → ◌≡◌ {A = Outcome} (record { says = said_of answer; state = r; lent = output }) (take_of r store output)
+    take_kept why is = rw is (sym (take_refused (number_of why) (sym judged ∙ ap said_of is)))
 
-  pub take-made : (count : ℕ) → take_said r (length store) (length output) ≡ values (count ∷ []) → count ≡ length_of (next_mark r) → (head : Head) → head ≡ releasing r.head
+  pub take_made : (count : ℕ) → take_said r (length store) (length output) ≡ values (count ∷ []) → count ≡ length_of (next_mark r) → (head : Head) → head ≡ releasing r.head
       → (after : List ℕ) → after ≡ part store (offset_of r.head.slot r.head.next.0) (offset_of r.head.slot r.head.next.0 + count) at_front_of output
       → ◌≡◌ {A = Outcome} (record { says = values (count ∷ []); state = head over set r.marks (r.head.next.0 % 512) 0; lent = after }) (take_of r store output)
   unfolding passing
-  take-made count judged is head t after a =
+  take_made count judged is head t after a =
       rw (a, is, t) (sym (take_done (length_of (next_mark r) ∷ []) (judged ∙ ap (λ (n : ℕ). values (n ∷ [])) is)))
 
 -- where something is held for a number of the span, the number is at most highest, and the length at most a slot
@@ -125,8 +125,8 @@ module _ (r : Receiver) (long : length r.marks ≡ 512) (f : Ruled r) where
       (λ (h : number ≤ r.head.highest.0 → ⊥). absurd (omega (arith, f.free (number % 512) (omega arith) (omega arith))))
       (dec_le number r.head.highest.0)
 
-  pub held-short : (number : ℕ) → length_of (mark_of r.marks number) ≤ r.head.slot
-  held-short number = f.short (number % 512) (omega arith)
+  pub held_short : (number : ℕ) → length_of (mark_of r.marks number) ≤ r.head.slot
+  held_short number = f.short (number % 512) (omega arith)
 
 -- what holds where a payload is taken
 pub record Gives (r : Receiver) (store_length room : ℕ) (given : List ℕ) : Type 0 where
@@ -156,7 +156,7 @@ gives r store_length room given long h =
       held = held;
       fits = ltb-false room (length_of (next_mark r)) p7.0;
       is = p7.1;
-      short = held-short r long f r.head.next.0;
+      short = held_short r long f r.head.next.0;
       below = held_below r long f r.head.next.0 (omega arith) (omega arith) held;
       usable = f.last;
     }

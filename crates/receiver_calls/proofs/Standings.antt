@@ -15,23 +15,23 @@ use Rattle.receiver_calls.specs.Meaning.{taken, held, missing, unseen, standing}
 use Rattle.receiver_state.specs.declared.Receiver.{Receiver}
 
 module _ (r : Receiver) (store : List ℕ) (n : ℕ) where
-  pub is-taken : n < r.head.next.0 → standing r store n ≡ taken
+  pub is_taken : n < r.head.next.0 → standing r store n ≡ taken
   unfolding standing
-  is-taken a = simp (lt-ltb _ _ a)
+  is_taken a = simp (lt-ltb _ _ a)
 
   module _ (a : r.head.next.0 ≤ n) where
-    pub is-unseen : r.head.highest.0 < n → standing r store n ≡ unseen
+    pub is_unseen : r.head.highest.0 < n → standing r store n ≡ unseen
     unfolding standing
-    is-unseen b = simp (le-ltb _ _ a, lt-ltb _ _ b)
+    is_unseen b = simp (le-ltb _ _ a, lt-ltb _ _ b)
 
     module _ (b : n ≤ r.head.highest.0) where
-      pub is-missing : mark_of r.marks n ≡ 0 → standing r store n ≡ missing
+      pub is_missing_lem : mark_of r.marks n ≡ 0 → standing r store n ≡ missing
       unfolding standing
-      is-missing z = simp (le-ltb _ _ a, le-ltb _ _ b, eq-eqb _ _ z)
+      is_missing_lem z = simp (le-ltb _ _ a, le-ltb _ _ b, eq-eqb _ _ z)
 
-      pub is-held : (mark_of r.marks n ≡ 0 → ⊥) → standing r store n ≡ held (held_bytes r.marks r.head.slot store n)
+      pub is_held_lem : (mark_of r.marks n ≡ 0 → ⊥) → standing r store n ≡ held (held_bytes r.marks r.head.slot store n)
       unfolding standing
-      is-held z = simp (le-ltb _ _ a, le-ltb _ _ b, ne_eqb _ _ z)
+      is_held_lem z = simp (le-ltb _ _ a, le-ltb _ _ b, ne_eqb _ _ z)
 
 -- two lists that agree from an index up to another have the same part there
 pub part_same : (l m : List ℕ) (from to : ℕ) → length l ≡ length m → ((k : ℕ) → from ≤ k → k < to → get_or l k 0 ≡ get_or m k 0) → part l from to ≡ part m from to
@@ -77,8 +77,8 @@ module _ (l : List ℕ) (at : ℕ) (bytes : List ℕ) (fits : at + length bytes 
       ∙ ap (λ (i : ℕ). get_or l i 0) f
 
 module _ (store : List ℕ) (slot number : ℕ) (payload : List ℕ) (fits : offset_of slot number + length payload ≤ length store) where
-  pub filled-length : length (filled store slot number payload) ≡ length store
-  filled-length = laid_length store (offset_of slot number) payload fits
+  pub filled_length : length (filled store slot number payload) ≡ length store
+  filled_length = laid_length store (offset_of slot number) payload fits
 
   -- what was stored stands at the front of its slot
   pub filled_here : part (filled store slot number payload) (offset_of slot number) (offset_of slot number + length payload) ≡ payload
@@ -88,7 +88,7 @@ module _ (store : List ℕ) (slot number : ℕ) (payload : List ℕ) (fits : off
   pub filled_other : (m size : ℕ) → size ≤ slot → length payload ≤ slot → (m % 512 ≡ number % 512 → ⊥)
       → part (filled store slot number payload) (offset_of slot m) (offset_of slot m + size) ≡ part store (offset_of slot m) (offset_of slot m + size)
   filled_other m size short small apart =
-      part_same (filled store slot number payload) store (offset_of slot m) (offset_of slot m + size) filled-length
+      part_same (filled store slot number payload) store (offset_of slot m) (offset_of slot m + size) filled_length
       (λ k a b.
       case
       (λ (q : m % 512 < number % 512). laid_before store (offset_of slot number) payload fits k (omega (arith, mul-le-mul_right slot q)))

@@ -11,16 +11,16 @@ use Rattle.receiver_calls.specs.Take.{take_of}
 use Rattle.terms.specs.declared.Answer.TheVariants as A
 use Rattle.terms.specs.declared.Given.TheVariants as G
 use Rattle.receiver_state.specs.declared.Receiver.{Receiver}
-use Rattle.receiver_calls.proofs.Laws.{accept-nothing, take-nothing}
+use Rattle.receiver_calls.proofs.Laws.{accept_nothing, take_nothing}
 use Rattle.receiver_in_place.specs.Behind.{accepted_behind, took_behind}
 
 module _ (r s : Receiver) (why : Refusal) (x : List ℕ) where
-  pub accept-refused : (number : SeqNo) (payload store : List ℕ) → accepted_behind (A.Refused why) s x ≡ accept_of r number payload store → (s ≡ r) × (x ≡ store)
-  accept-refused number payload store e =
-      let k = accept-nothing r number payload store (number_of why) (sym (ap (λ (o : Outcome). o.says) e)) in
+  pub accept_refused : (number : SeqNo) (payload store : List ℕ) → accepted_behind (A.Refused why) s x ≡ accept_of r number payload store → (s ≡ r) × (x ≡ store)
+  accept_refused number payload store e =
+      let k = accept_nothing r number payload store (number_of why) (sym (ap (λ (o : Outcome). o.says) e)) in
       (ap (λ (o : Outcome). o.state) e ∙ k.0, ap (λ (o : Outcome). o.lent) e ∙ k.1)
 
-  pub take-refused : (store output : List ℕ) → took_behind (G.Refused why) s x ≡ take_of r store output → (s ≡ r) × (x ≡ output)
-  take-refused store output e =
-      let k = take-nothing r store output (number_of why) (sym (ap (λ (o : Outcome). o.says) e)) in
+  pub take_refused : (store output : List ℕ) → took_behind (G.Refused why) s x ≡ take_of r store output → (s ≡ r) × (x ≡ output)
+  take_refused store output e =
+      let k = take_nothing r store output (number_of why) (sym (ap (λ (o : Outcome). o.says) e)) in
       (ap (λ (o : Outcome). o.state) e ∙ k.0, ap (λ (o : Outcome). o.lent) e ∙ k.1)

@@ -17,15 +17,15 @@ use Rattle.wire.specs.BigEndian.{numbers_at}
 use Rattle.packet_read.specs.Reading.{nack_count}
 use Rattle.packet_read.proofs.Looks.{nack_numbers}
 use Rattle.receiver_calls.specs.Meaning.{standing}
-use Rattle.receiver_calls.proofs.Laws.{slot-fits}
+use Rattle.receiver_calls.proofs.Laws.{slot_fits_lem}
 use Rattle.receiver_ack.specs.Missing.{is_among, is_received}
 use Rattle.receiver_ack.specs.Acknowledge.{plain_ack_of}
 use Rattle.receiver_ack.proofs.Carried.{absence_claims}
-use Rattle.receiver_ack.proofs.PlainAck.{ReadsAs, acknowledge-reads, acknowledge-written, acknowledge_enough, at_most_1044}
+use Rattle.receiver_ack.proofs.PlainAck.{ReadsAs, acknowledge_reads, acknowledge_written, acknowledge_enough, at_most_1044}
 use Rattle.receiver_runs.specs.Runs.{Run, end_of}
 use Rattle.receiver_runs.specs.Delivered.{Taken, Held, through_in, nacks_in, ack_of, ack_packet, Honest, NothingHidden}
 use Rattle.receiver_runs.proofs.Pieces.{by_first}
-use Rattle.receiver_runs.proofs.Places.{next_of, highest_in, first, known, taken-below, accepted-held}
+use Rattle.receiver_runs.proofs.Places.{next_of, highest_in, first, known, taken_below, accepted_held}
 
 -- what is neither taken nor held does not count as received
 not_so : {C : Type 0} → false ≡ true → C
@@ -38,7 +38,7 @@ module _ (run : Run) where
       case inl
       (λ (low : n ≤ run.s.0 → ⊥).
       case
-      (λ (a : n < next_of run). let t = (known run).taken-all n (omega arith) a in inr (inl (t.0, t.1)))
+      (λ (a : n < next_of run). let t = (known run).taken_all n (omega arith) a in inr (inl (t.0, t.1)))
       (λ (a : n < next_of run → ⊥).
       by_first (first run n)
       (λ q.
@@ -47,15 +47,15 @@ module _ (run : Run) where
       (λ (b : n ≤ highest_in run). not_so (rw (le-leb n (highest_in run) b) at told))
       (λ (b : n ≤ highest_in run → ⊥). not_so (rw (lt-leb n (highest_in run) (omega arith)) at told))
       (dec_le n (highest_in run)))
-      (λ bytes q. inr (inr (bytes, accepted-held run n bytes (omega arith) q))))
+      (λ bytes q. inr (inr (bytes, accepted_held run n bytes (omega arith) q))))
       (dec_lt n (next_of run)))
       (dec_le n run.s.0)
 
   -- and the other way round
-  is-received : (n : ℕ) → (n ≤ run.s.0) ⊎ (Taken run n ⊎ Held run n) → is_received (standing (end_of run).state (end_of run).store n) ≡ true
-  is-received n =
+  is_received_lem : (n : ℕ) → (n ≤ run.s.0) ⊎ (Taken run n ⊎ Held run n) → is_received (standing (end_of run).state (end_of run).store n) ≡ true
+  is_received_lem n =
       let below : n < next_of run → is_received (standing (end_of run).state (end_of run).store n) ≡ true = λ a. rw ((known run).stands n, lt-ltb n (next_of run) a) in
-      ⊎_elim (λ low. below (omega (arith, (known run).next-is))) (⊎_elim (λ t. below (taken-below run n t)) (λ h. rw h.1))
+      ⊎_elim (λ low. below (omega (arith, (known run).next_is))) (⊎_elim (λ t. below (taken_below run n t)) (λ h. rw h.1))
 
   -- a packet that reads as the acknowledgement of the run's end
   module _ (send recv : StreamId) (packet : List ℕ) (reads : ReadsAs (end_of run).state send recv packet) where
@@ -70,7 +70,7 @@ module _ (run : Run) where
     honest = record {
       readable = rw reads.fields_read_back;
       absent_is = λ n up.
-          (λ e. received_is n (sym (absent n up) ∙ ap not e), λ h. not-true (is_among n (nacks_in packet)) (absent n up ∙ is-received n h));
+          (λ e. received_is n (sym (absent n up) ∙ ap not e), λ h. not-true (is_among n (nacks_in packet)) (absent n up ∙ is_received_lem n h));
     }
 
   -- 3. a number up to an acknowledgement's ack-through is absent from its NACKs exactly if it is at most s, taken or held, and 1,044 bytes
@@ -80,13 +80,13 @@ module _ (run : Run) where
     honest = λ send recv output size wide done.
         honest send recv (ack_packet (ack_of run send recv output) size)
         (rw (sub-zero size)
-        (acknowledge-reads (end_of run).state send recv output size done
+        (acknowledge_reads (end_of run).state send recv output size done
         (ltb-true send.0 (2 ^ 32) (and_left (ltb send.0 (2 ^ 32)) (ltb recv.0 (2 ^ 32)) wide))
         (ltb-true recv.0 (2 ^ 32) (and_right (ltb send.0 (2 ^ 32)) (ltb recv.0 (2 ^ 32)) wide))));
     at_most_1044 = λ send recv output size done.
-        omega (arith, (acknowledge-written (end_of run).state send recv output size done).long, at_most_1044 (end_of run).state send recv);
+        omega (arith, (acknowledge_written (end_of run).state send recv output size done).long, at_most_1044 (end_of run).state send recv);
     always_fits = λ send recv output room. (
       length (plain_ack_of (end_of run).state send recv),
-      acknowledge_enough (end_of run).state send recv output (known run).sound.keeps (slot-fits (end_of run).state (end_of run).store (known run).sound) room,
+      acknowledge_enough (end_of run).state send recv output (known run).sound.keeps (slot_fits_lem (end_of run).state (end_of run).store (known run).sound) room,
     );
   }

@@ -33,8 +33,8 @@ told next highest first n =
 
 module _ (next highest n : ℕ) (first : Option (List ℕ)) where
   -- what is held has that first packet
-  pub told-held : (bytes : List ℕ) → told next highest first n ≡ held bytes → (next ≤ n) × (first ≡ some bytes)
-  told-held bytes e =
+  pub told_held : (bytes : List ℕ) → told next highest first n ≡ held bytes → (next ≤ n) × (first ≡ some bytes)
+  told_held bytes e =
       case
       (λ (a : n < next). let e' = rw (lt-ltb n next a) at e in let z : ◌≡◌ {A = ℕ} 0 1 = cc in absurd (omega arith))
       (λ (a : n < next → ⊥).
@@ -69,13 +69,13 @@ pub record Known (s slot : ℕ) (r : Receiver) (store : List ℕ) (accepted took
   pub sound : Sound r store
   pub slot_is : r.head.slot ≡ slot
   pub start_is : r.head.start.0 ≡ s
-  pub next-is : r.head.next.0 ≡ s + 1 + length took
-  pub highest-is : r.head.highest.0 ≡ highest_of s accepted
+  pub next_is : r.head.next.0 ≡ s + 1 + length took
+  pub highest_is : r.head.highest.0 ≡ highest_of s accepted
   pub stands : (n : ℕ) → standing r store n ≡ told r.head.next.0 r.head.highest.0 (first_of n accepted) n
   pub above : (n : ℕ) (bytes : List ℕ) → first_of n accepted ≡ some bytes → s < n
   -- from s + 1 up to the next to take, each number was taken with the bytes of its first packet, and no other number was
-  pub taken-all : (n : ℕ) → s < n → n < r.head.next.0 → (bytes : List ℕ) × (first_of n took ≡ some bytes) × (first_of n accepted ≡ some bytes)
-  pub taken-only : (n : ℕ) (bytes : List ℕ) → first_of n took ≡ some bytes → (s < n) × (n < r.head.next.0)
+  pub taken_all : (n : ℕ) → s < n → n < r.head.next.0 → (bytes : List ℕ) × (first_of n took ≡ some bytes) × (first_of n accepted ≡ some bytes)
+  pub taken_only : (n : ℕ) (bytes : List ℕ) → first_of n took ≡ some bytes → (s < n) × (n < r.head.next.0)
   pub ordered : (k : ℕ) (piece : Piece) → get_elem? took k ≡ some piece → (piece.number ≡ s + 1 + k) × (first_of piece.number accepted ≡ some piece.bytes)
 
 -- a step from r and its store to r' and its store', both sound
@@ -85,10 +85,10 @@ module _ (s slot : ℕ) (r r' : Receiver) (store store' : List ℕ) (accepted to
   module _ (number : ℕ) (payload : List ℕ) (was : (standing r store number ≡ missing) ⊎ (standing r store number ≡ unseen))
       (now_held : standing r' store' number ≡ held payload)
       (others : (m : ℕ) → (m ≡ number → ⊥) → standing r' store' m ≡ (missing when ltb r.head.highest.0 m && ltb m number else standing r store m))
-      (next-is : r'.head.next.0 ≡ r.head.next.0) (highest-is : r'.head.highest.0 ≡ max r.head.highest.0 number) where
+      (next_is : r'.head.next.0 ≡ r.head.next.0) (highest_is : r'.head.highest.0 ≡ max r.head.highest.0 number) where
     -- no packet of that number came before
-    is-first : (r.head.next.0 ≤ number) × (first_of number accepted ≡ none)
-    is-first = told_open r.head.next.0 r.head.highest.0 number (first_of number accepted) (rw (known.stands number) at was)
+    is_first_lem : (r.head.next.0 ≤ number) × (first_of number accepted ≡ none)
+    is_first_lem = told_open r.head.next.0 r.head.highest.0 number (first_of number accepted) (rw (known.stands number) at was)
 
     stands_other : (n : ℕ) → (n ≡ number → ⊥)
         → (missing when ltb r.head.highest.0 n && ltb n number else standing r store n) ≡ told r.head.next.0 (max r.head.highest.0 number) (first_of n accepted) n
@@ -113,24 +113,24 @@ module _ (s slot : ℕ) (r r' : Receiver) (store store' : List ℕ) (accepted to
           sound = sound;
           slot_is = same-slot ∙ known.slot_is;
           start_is = ap (λ (x : SeqNo). x.0) same_start ∙ known.start_is;
-          next-is = next-is ∙ known.next-is;
-          highest-is = omega (arith, highest_more s accepted p, highest-is, known.highest-is);
+          next_is = next_is ∙ known.next_is;
+          highest_is = omega (arith, highest_more s accepted p, highest_is, known.highest_is);
           stands = λ n.
               case
               (λ (e : n ≡ number).
-              rw (e, now_held, first_own number accepted p refl is-first.1, next-is, le-ltb number r.head.next.0 is-first.0))
+              rw (e, now_held, first_own number accepted p refl is_first_lem.1, next_is, le-ltb number r.head.next.0 is_first_lem.0))
               (λ (other : n ≡ number → ⊥).
-              rw (others n other, first_other n accepted p (λ e. other (sym e)), next-is, highest-is) (stands_other n other))
+              rw (others n other, first_other n accepted p (λ e. other (sym e)), next_is, highest_is) (stands_other n other))
               (ℕ_discrete n number);
           above = λ n bytes e.
               case
-              (λ (q : n ≡ number). omega (arith, is-first.0, known.next-is))
+              (λ (q : n ≡ number). omega (arith, is_first_lem.0, known.next_is))
               (λ (other : n ≡ number → ⊥). known.above n bytes (sym (first_other n accepted p (λ q. other (sym q))) ∙ e))
               (ℕ_discrete n number);
-          taken-all = λ n a b.
-              let t = known.taken-all n a (omega arith) in
+          taken_all = λ n a b.
+              let t = known.taken_all n a (omega arith) in
               (t.0, t.1, first_stays n accepted (p ∷ []) t.0 t.2);
-          taken-only = λ n bytes e. rw next-is (known.taken-only n bytes e);
+          taken_only = λ n bytes e. rw next_is (known.taken_only n bytes e);
           ordered = λ k piece e.
               let t = known.ordered k piece e in
               (t.0, first_stays piece.number accepted (p ∷ []) piece.bytes t.1);
@@ -139,13 +139,13 @@ module _ (s slot : ℕ) (r r' : Receiver) (store store' : List ℕ) (accepted to
   -- a take: the next number was held, and counts as taken from now on
   module _ (bytes : List ℕ) (was : standing r store r.head.next.0 ≡ held bytes)
       (others : (m : ℕ) → standing r' store' m ≡ (taken when eqb m r.head.next.0 else standing r store m))
-      (next-is : r'.head.next.0 ≡ r.head.next.0 + 1) (highest-is : r'.head.highest.0 ≡ r.head.highest.0) where
+      (next_is : r'.head.next.0 ≡ r.head.next.0 + 1) (highest_is : r'.head.highest.0 ≡ r.head.highest.0) where
     had : first_of r.head.next.0 accepted ≡ some bytes
-    had = (told-held r.head.next.0 r.head.highest.0 r.head.next.0 (first_of r.head.next.0 accepted) bytes (sym (known.stands r.head.next.0) ∙ was)).1
+    had = (told_held r.head.next.0 r.head.highest.0 r.head.next.0 (first_of r.head.next.0 accepted) bytes (sym (known.stands r.head.next.0) ∙ was)).1
 
     -- it was not taken before
     not_yet : first_of r.head.next.0 took ≡ none
-    not_yet = by_first (first_of r.head.next.0 took) (λ e. e) (λ x e. let o = known.taken-only r.head.next.0 x e in absurd (omega arith))
+    not_yet = by_first (first_of r.head.next.0 took) (λ e. e) (λ x e. let o = known.taken_only r.head.next.0 x e in absurd (omega arith))
 
     pub passed : Known s slot r' store' accepted (took ++ (record { number = r.head.next.0; bytes = bytes } ∷ []))
     passed =
@@ -154,10 +154,10 @@ module _ (s slot : ℕ) (r r' : Receiver) (store store' : List ℕ) (accepted to
           sound = sound;
           slot_is = same-slot ∙ known.slot_is;
           start_is = ap (λ (x : SeqNo). x.0) same_start ∙ known.start_is;
-          next-is = omega (arith, length-append took (p ∷ []), known.next-is);
-          highest-is = highest-is ∙ known.highest-is;
+          next_is = omega (arith, length-append took (p ∷ []), known.next_is);
+          highest_is = highest_is ∙ known.highest_is;
           stands = λ n.
-              rw (others n, next-is, highest-is, known.stands n)
+              rw (others n, next_is, highest_is, known.stands n)
               (case
               (λ (e : n ≡ r.head.next.0). rw (eq-eqb _ _ e, lt-ltb n (r.head.next.0 + 1) (omega arith)))
               (λ (other : n ≡ r.head.next.0 → ⊥).
@@ -168,23 +168,23 @@ module _ (s slot : ℕ) (r r' : Receiver) (store store' : List ℕ) (accepted to
               (dec_lt n r.head.next.0)))
               (ℕ_discrete n r.head.next.0));
           above = known.above;
-          taken-all = λ n a b.
+          taken_all = λ n a b.
               case
               (λ (e : n ≡ r.head.next.0). (bytes, rw e (first_own r.head.next.0 took p refl not_yet), rw e had))
               (λ (other : n ≡ r.head.next.0 → ⊥).
-              let t = known.taken-all n a (omega (arith, other)) in
+              let t = known.taken_all n a (omega (arith, other)) in
               (t.0, first_stays n took (p ∷ []) t.0 t.1, t.2))
               (ℕ_discrete n r.head.next.0);
-          taken-only = λ n x e.
+          taken_only = λ n x e.
               case
-              (λ (q : n ≡ r.head.next.0). (omega (arith, known.next-is), omega arith))
+              (λ (q : n ≡ r.head.next.0). (omega (arith, known.next_is), omega arith))
               (λ (other : n ≡ r.head.next.0 → ⊥).
-              let t = known.taken-only n x (sym (first_other n took p (λ q. other (sym q))) ∙ e) in
+              let t = known.taken_only n x (sym (first_other n took p (λ q. other (sym q))) ∙ e) in
               (t.0, omega arith))
               (ℕ_discrete n r.head.next.0);
           ordered = λ k piece e.
               ⊎_elim
               (known.ordered k piece)
-              (λ h. rw (← h.1) (omega (arith, h.0, known.next-is), had))
+              (λ h. rw (← h.1) (omega (arith, h.0, known.next_is), had))
               (at_place took p piece k e);
         }

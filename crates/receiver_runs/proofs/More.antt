@@ -8,7 +8,7 @@ use lib.ListN.{length, get_or}
 use Rattle.terms.specs.declared.StreamId.{StreamId}
 use Rattle.terms.specs.Answers.{values}
 use Rattle.terms.proofs.Laws.{and_left, and_right, and_both, past}
-use Rattle.receiver_calls.proofs.Laws.{slot-fits}
+use Rattle.receiver_calls.proofs.Laws.{slot_fits_lem}
 use Rattle.receiver_ack.specs.Acknowledge.{plain_ack_of}
 use Rattle.receiver_ack.proofs.PlainAck.{acknowledge_by_room}
 use Rattle.receiver_runs.specs.Runs.{Call, accept, take, acknowledge, Event, Kept, step_of, kept_after, events_of, in_width, all_in_width, Run, end_of}
@@ -43,12 +43,12 @@ accepted_more [] rest = refl
 accepted_more (e ∷ h) rest = rw (accepted_more h rest, append_assoc (accepted_by e.asked e.answered) (accepted_in h) (accepted_in rest))
 
 -- the packet of each acknowledge that is done, as long as it answers, is honest
-pub ack-honest : (run : Run) (send recv : StreamId) (output given : List ℕ) → in_width (acknowledge send recv output) ≡ true → (ack_of run send recv output).answered ≡ values given
+pub ack_honest : (run : Run) (send recv : StreamId) (output given : List ℕ) → in_width (acknowledge send recv output) ≡ true → (ack_of run send recv output).answered ≡ values given
     → Honest run (ack_packet (ack_of run send recv output) (get_or given 0 0))
-ack-honest run send recv output given wide done =
+ack_honest run send recv output given wide done =
     let r = (end_of run).state in
     let size = length (plain_ack_of r send recv) in
-    let answer = acknowledge_by_room r send recv output (known run).sound.keeps (slot-fits r (end_of run).store (known run).sound) in
+    let answer = acknowledge_by_room r send recv output (known run).sound.keeps (slot_fits_lem r (end_of run).store (known run).sound) in
     let past-7 = (past 7 (ltb (length output) size) (values (size ∷ [])) given (sym answer ∙ done)).1 in
     let is : given ≡ size ∷ [] = cc in
     rw is ((nothing_hidden run).honest send recv output size wide (done ∙ ap values is))

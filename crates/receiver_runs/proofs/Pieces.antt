@@ -36,20 +36,20 @@ none_rung x y y' z true f e = some_not_none refl e
 none_rung x y y' z false f e = f e
 
 -- where there was none, it is the first of what comes behind
-pub first-behind : (n : ℕ) (l m : List Piece) → first_of n l ≡ none → first_of n (l ++ m) ≡ first_of n m
-first-behind n [] m e = refl
-first-behind n (p ∷ l) m e = none_rung p.bytes (first_of n l) (first_of n (l ++ m)) (first_of n m) (eqb p.number n) (first-behind n l m) e
+pub first_behind : (n : ℕ) (l m : List Piece) → first_of n l ≡ none → first_of n (l ++ m) ≡ first_of n m
+first_behind n [] m e = refl
+first_behind n (p ∷ l) m e = none_rung p.bytes (first_of n l) (first_of n (l ++ m)) (first_of n m) (eqb p.number n) (first_behind n l m) e
 
 -- one piece of another number changes nothing
 pub first_other : (n : ℕ) (l : List Piece) (p : Piece) → (p.number ≡ n → ⊥) → first_of n (l ++ (p ∷ [])) ≡ first_of n l
 first_other n l p other =
     by_first (first_of n l)
-    (λ e. rw (first-behind n l (p ∷ []) e, ne_eqb p.number n other, e))
+    (λ e. rw (first_behind n l (p ∷ []) e, ne_eqb p.number n other, e))
     (λ b e. let k = first_stays n l (p ∷ []) b e in cc)
 
 -- and one of its own is the first where there was none
 pub first_own : (n : ℕ) (l : List Piece) (p : Piece) → p.number ≡ n → first_of n l ≡ none → first_of n (l ++ (p ∷ [])) ≡ some p.bytes
-first_own n l p own e = rw (first-behind n l (p ∷ []) e, eq-eqb p.number n own)
+first_own n l p own e = rw (first_behind n l (p ∷ []) e, eq-eqb p.number n own)
 
 -- the highest, with one piece more
 pub highest_more : (s : ℕ) (l : List Piece) (p : Piece) → highest_of s (l ++ (p ∷ [])) ≡ max (highest_of s l) p.number

@@ -18,13 +18,13 @@ use Rattle.terms.specs.Answers.{Said, refusal, values}
 use Rattle.receiver_state.specs.Start.{start_of}
 use Rattle.receiver_calls.specs.Accept.{accept_of}
 use Rattle.receiver_calls.specs.Take.{take_of}
-use Rattle.receiver_calls.proofs.Laws.{by_said, start-standing, start-sound, start-slot, start-next, start-highest, accept_changes, accept-nothing, accept-sound, accept_fair, accept-slot, take_changes, take-nothing, take-sound, take_fair, take-slot, slot-fits}
+use Rattle.receiver_calls.proofs.Laws.{by_said, start_standing, start_sound, start_slot, start_next, start_highest, accept_changes, accept_nothing, accept_sound, accept_fair, accept_slot, take_changes, take_nothing, take_sound, take_fair, take_slot, slot_fits_lem}
 use Rattle.receiver_ack.proofs.PlainAck.{acknowledge_fair}
 use Rattle.receiver_runs.specs.Runs.{Call, accept, take, acknowledge, Event, Kept, step_of, kept_after, events_of, in_width, all_in_width, begun}
 use Rattle.receiver_runs.specs.History.{Piece, accepted_by, accepted_in, taken_by, taken_in, refused_by, refused_in}
 use Rattle.receiver_runs.specs.Delivered.{blames_neither}
 use Rattle.receiver_runs.proofs.Pieces.{some_not_none}
-use Rattle.receiver_runs.proofs.Starts.{start-start, accept-start, take-start}
+use Rattle.receiver_runs.proofs.Starts.{start_start, accept_start, take_start}
 use Rattle.receiver_runs.proofs.Known.{Known, entered, passed}
 
 -- what is known, of a history
@@ -114,14 +114,14 @@ step s slot kept h (accept number payload) at wide =
     let width = ltb-true number.0 (2 ^ 32) wide in
     by_said (accept_of r number payload store).says
     (λ n q.
-    let k = accept-nothing r number payload store n q in
+    let k = accept_nothing r number payload store n q in
     same s slot h e kept (step_of kept (accept number payload)).kept at k.0 k.1 (brought_not number payload _ n q) refl (accept_fair r number payload store sound))
     (λ given q.
     let c = accept_changes r number payload store given q sound in
     grown_accept s slot h e (step_of kept (accept number payload)).kept (record { number = number.0; bytes = payload }) (brought number payload _ given q) refl
     (entered s slot r (accept_of r number payload store).state store (accept_of r number payload store).lent (accepted_in h) (taken_in h) at.known
-    (accept-sound r number payload store sound (omega arith)) (accept-slot r number payload store) (accept-start r number payload store)
-    number.0 payload c.was c.now_held c.others (ap (λ (x : SeqNo). x.0) c.next-is) c.highest-is)
+    (accept_sound r number payload store sound (omega arith)) (accept_slot r number payload store) (accept_start r number payload store)
+    number.0 payload c.was c.now_held c.others (ap (λ (x : SeqNo). x.0) c.next_is) c.highest_is)
     at.fair (accept_fair r number payload store sound))
 step s slot kept h (take output) at wide =
     let r = kept.state in
@@ -130,22 +130,22 @@ step s slot kept h (take output) at wide =
     let e = (step_of kept (take output)).event in
     by_said (take_of r store output).says
     (λ n q.
-    let k = take-nothing r store output n q in
+    let k = take_nothing r store output n q in
     same s slot h e kept (step_of kept (take output)).kept at k.0 refl refl (gave_not output r.head.next.0 _ n _ q) (take_fair r store output sound))
     (λ given q.
     let c = take_changes r store output given q sound in
     grown_take s slot h e (step_of kept (take output)).kept (record { number = r.head.next.0; bytes = c.bytes }) refl
-    (gave output r.head.next.0 _ given c.bytes output _ q c.counted c.output-is)
+    (gave output r.head.next.0 _ given c.bytes output _ q c.counted c.output_is)
     (passed s slot r (take_of r store output).state store store (accepted_in h) (taken_in h) at.known
-    (take-sound r store output sound) (take-slot r store output) (take-start r store output)
-    c.bytes c.was c.others c.next-is (ap (λ (x : SeqNo). x.0) c.highest-is))
+    (take_sound r store output sound) (take_slot r store output) (take_start r store output)
+    c.bytes c.was c.others c.next_is (ap (λ (x : SeqNo). x.0) c.highest_is))
     at.fair (take_fair r store output sound))
 step s slot kept h (acknowledge send recv output) at wide =
     let r = kept.state in
     let sound = at.known.sound in
     same s slot h (step_of kept (acknowledge send recv output)).event kept kept at refl refl refl refl
     (λ n q.
-    let only = acknowledge_fair r send recv output sound.keeps (slot-fits r kept.store sound) n q in
+    let only = acknowledge_fair r send recv output sound.keeps (slot_fits_lem r kept.store sound) n q in
     (λ e. omega arith, λ e. omega arith))
 
 -- so does every list of calls
@@ -167,24 +167,24 @@ one_more kept (c ∷ calls) call = ap (λ (l : List Event). (step_of kept c).eve
 -- and what is known holds at the start
 pub start : (s : SeqNo) (slot : ℕ) (store : List ℕ) → (start_of s slot (length store)).says ≡ values [] → s.0 < 2 ^ 32 → At s.0 slot (begun s slot store) []
 start s slot store done width =
-    let next = start-next s slot store done in
-    let highest = start-highest s slot store done in
+    let next = start_next s slot store done in
+    let highest = start_highest s slot store done in
     record {
       known = record {
-        sound = start-sound s slot store done (omega arith);
-        slot_is = start-slot s slot store done;
-        start_is = start-start s slot store done;
-        next-is = next ∙ sym (add-zero (s.0 + 1));
-        highest-is = highest;
+        sound = start_sound s slot store done (omega arith);
+        slot_is = start_slot s slot store done;
+        start_is = start_start s slot store done;
+        next_is = next ∙ sym (add-zero (s.0 + 1));
+        highest_is = highest;
         stands = λ n.
-            start-standing s slot store done n ∙ sym (rw (next, highest)
+            start_standing s slot store done n ∙ sym (rw (next, highest)
             (case
             (λ (a : n ≤ s.0). rw (le-leb n s.0 a, lt-ltb n (s.0 + 1) (omega arith)))
             (λ (a : n ≤ s.0 → ⊥). rw (lt-leb n s.0 (omega arith), le-ltb n (s.0 + 1) (omega arith)))
             (dec_le n s.0)));
         above = λ n bytes e. some_not_none e refl;
-        taken-all = λ n a b. absurd (omega arith);
-        taken-only = λ n bytes e. some_not_none e refl;
+        taken_all = λ n a b. absurd (omega arith);
+        taken_only = λ n bytes e. some_not_none e refl;
         ordered = λ k piece e. some_not_none e refl;
       };
       fair = refl;

@@ -39,7 +39,7 @@ Missing run n = is_missing (end_of run).state n ≡ true
 
 -- one of three, and no other
 pub data ExactlyOne (A B C : Type 0) : Type 0 where
-  the-first : A → (B → ⊥) → (C → ⊥) → ExactlyOne A B C
+  the_first : A → (B → ⊥) → (C → ⊥) → ExactlyOne A B C
   the_second : (A → ⊥) → B → (C → ⊥) → ExactlyOne A B C
   the_third : (A → ⊥) → (B → ⊥) → C → ExactlyOne A B C
 
@@ -48,7 +48,7 @@ pub data ExactlyOne (A B C : Type 0) : Type 0 where
 -- the first accepted packet of its number.
 pub record NothingLost (run : Run) : Type 0 where
   pub one_place : (n : ℕ) → run.s.0 < n → n ≤ highest_accepted run → ExactlyOne (Taken run n) (Held run n) (Missing run n)
-  pub missing-is : (n : ℕ) → run.s.0 < n → n ≤ highest_accepted run → Missing run n ↔ NeverAccepted run n
+  pub missing_is : (n : ℕ) → run.s.0 < n → n ≤ highest_accepted run → Missing run n ↔ NeverAccepted run n
   pub in_range : (n : ℕ) (bytes : List ℕ) → AcceptedWith run n bytes → (run.s.0 < n) × (n ≤ highest_accepted run)
   pub held_first : (n : ℕ) (bytes : List ℕ) → HeldWith run n bytes → AcceptedWith run n bytes
 
@@ -56,9 +56,9 @@ pub record NothingLost (run : Run) : Type 0 where
 -- later packets of that number carried. Places in the list of takes count from 0.
 pub record InOrder (run : Run) : Type 0 where
   pub as_numbered : (k : ℕ) (piece : Piece) → get_elem? (taken_in (history_of run)) k ≡ some piece → piece.number ≡ run.s.0 + 1 + k
-  pub bytes-first : (k : ℕ) (piece : Piece) → get_elem? (taken_in (history_of run)) k ≡ some piece → AcceptedWith run piece.number piece.bytes
+  pub bytes_first : (k : ℕ) (piece : Piece) → get_elem? (taken_in (history_of run)) k ≡ some piece → AcceptedWith run piece.number piece.bytes
   -- and the next to take is the one behind the last taken
-  pub next-is : (end_of run).state.head.next.0 ≡ run.s.0 + 1 + length (taken_in (history_of run))
+  pub next_is : (end_of run).state.head.next.0 ≡ run.s.0 + 1 + length (taken_in (history_of run))
 
 -- what our reader finds in a packet: its ack-through, and its NACKs as numbers
 abbrev pub through_in : List ℕ → ℕ

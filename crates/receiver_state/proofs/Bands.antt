@@ -74,9 +74,9 @@ module _ (slot next highest : ℕ) (marks : List ℕ) (long : length marks ≡ 5
       (dec_lt highest (slot_number next k))))
 
   module _ (low : next ≤ highest + 1) (far : highest ≤ next + 511) (end : ℕ) (is : end ≡ next % 512 + (highest + 1 - next)) where
-    pub one-run : end ≤ 512
+    pub one_run : end ≤ 512
         → banded_of marks (next % 512) end (min (slot + 1) 65535) 0 ≡ (each (free_outside next highest) 0 marks && all (length_at_most slot) marks)
-    one-run fit =
+    one_run fit =
         bool_iff (banded_of marks (next % 512) end (min (slot + 1) 65535) 0) (each (free_outside next highest) 0 marks && all (length_at_most slot) marks)
         (λ t.
         right_of

@@ -111,10 +111,10 @@ module _ (r : Receiver) where
       (and_both (each (free_outside next highest) 0 marks) (all (length_at_most r.head.slot) marks) (free_of_lem next highest marks f.free) (short_of r.head.slot marks f.short)))))))
 
   -- the numbers in order and highest held, what is left are the two rules over the table
-  pub rules-left : 1 ≤ next → r.head.start.0 < next → next ≤ highest + 1 → highest ≤ next + 511 → highest ≤ 4294967294 → is_held (mark_of marks highest) || eqb highest (next - 1) ≡ true
+  pub rules_left : 1 ≤ next → r.head.start.0 < next → next ≤ highest + 1 → highest ≤ next + 511 → highest ≤ 4294967294 → is_held (mark_of marks highest) || eqb highest (next - 1) ≡ true
       → rules_of r ≡ (each (free_outside next highest) 0 marks && all (length_at_most r.head.slot) marks)
   unfolding rules_of
-  rules-left one late low far last held =
+  rules_left one late low far last held =
       simp (le-leb 1 next one, lt-ltb r.head.start.0 next late, le-leb (next - 1) highest (omega arith), le-leb highest (next + 511) far, held, le-leb highest 4294967294 last)
 
 pub record Sized (slot store_length : ℕ) : Type 0 where

@@ -12,7 +12,7 @@ use Rattle.receiver_calls.specs.Meaning.{is_missing}
 use Rattle.receiver_state.specs.declared.Receiver.{Receiver}
 use Rattle.receiver_state.proofs.Facts.{Ruled}
 use Rattle.receiver_why.specs.Reasons.{below_start, was_taken, is_ready, behind_gap, never_came, not_yet_seen, beyond_span, case_of, smallest_missing}
-use Rattle.receiver_why.proofs.Smallest.{First, first-is}
+use Rattle.receiver_why.proofs.Smallest.{First, first_is}
 
 module _ (r : Receiver) (n : ℕ) where
   abbrev next : ℕ
@@ -39,16 +39,16 @@ module _ (r : Receiver) (n : ℕ) where
         free = eqb-true (mark_of r.marks n) 0 (and_right (leb n highest) (is_free (mark_of r.marks n)) inner);
       }
 
-  pub not-missing : (next ≤ n → n ≤ highest → mark_of r.marks n ≡ 0 → ⊥) → is_missing r n ≡ false
-  not-missing f = no (is_missing r n) (λ t. let l = lacks t in f l.new l.seen l.free)
+  pub not_missing : (next ≤ n → n ≤ highest → mark_of r.marks n ≡ 0 → ⊥) → is_missing r n ≡ false
+  not_missing f = no (is_missing r n) (λ t. let l = lacks t in f l.new l.seen l.free)
     where
       no : (b : _) → (b ≡ true → ⊥) → b ≡ false
       no true g = absurd (g refl)
       no false g = refl
 
-  pub below-is : n ≤ r.head.start.0 → case_of r n ≡ below_start
+  pub below_is : n ≤ r.head.start.0 → case_of r n ≡ below_start
   unfolding case_of
-  below-is a = simp (le-leb _ _ a)
+  below_is a = simp (le-leb _ _ a)
 
   module _ (after : r.head.start.0 < n) where
     pub taken_is : n < next → case_of r n ≡ was_taken
@@ -61,9 +61,9 @@ module _ (r : Receiver) (n : ℕ) where
       beyond_is a = simp (lt-leb _ _ after, le-ltb _ _ new, le-leb _ _ a)
 
       module _ (near : n - next < 512) where
-        pub unseen-is : highest < n → case_of r n ≡ not_yet_seen
+        pub unseen_is : highest < n → case_of r n ≡ not_yet_seen
         unfolding case_of
-        unseen-is a = simp (lt-leb _ _ after, le-ltb _ _ new, lt-leb _ _ near, lt-ltb _ _ a)
+        unseen_is a = simp (lt-leb _ _ after, le-ltb _ _ new, lt-leb _ _ near, lt-ltb _ _ a)
 
         module _ (seen : n ≤ highest) where
           pub never_is : mark_of r.marks n ≡ 0 → case_of r n ≡ never_came
@@ -81,16 +81,16 @@ module _ (r : Receiver) (n : ℕ) where
 
 -- what is known of the smallest missing number of a state that keeps the rules
 module _ (r : Receiver) (f : Ruled r) where
-  pub smallest-first : First r.marks r.head.next.0 (r.head.highest.0 + 1 - r.head.next.0) (smallest_missing r)
-  smallest-first = first-is r.marks r.head.next.0 (r.head.highest.0 + 1 - r.head.next.0)
+  pub smallest_first : First r.marks r.head.next.0 (r.head.highest.0 + 1 - r.head.next.0) (smallest_missing r)
+  smallest_first = first_is r.marks r.head.next.0 (r.head.highest.0 + 1 - r.head.next.0)
 
   -- nothing is missing below it,
   pub none_below : (m : ℕ) → m < smallest_missing r → is_missing r m ≡ false
-  none_below m a = not-missing r m (λ b c z. omega (arith, smallest-first.before m b a))
+  none_below m a = not_missing r m (λ b c z. omega (arith, smallest_first.before m b a))
 
   -- and below highest it is missing
-  pub is-smallest : smallest_missing r ≤ r.head.highest.0 → is_missing r (smallest_missing r) ≡ true
-  is-smallest a = missing_of_lem r (smallest_missing r) smallest-first.low a (smallest-first.free (omega (arith, f.low)))
+  pub is_smallest : smallest_missing r ≤ r.head.highest.0 → is_missing r (smallest_missing r) ≡ true
+  is_smallest a = missing_of_lem r (smallest_missing r) smallest_first.low a (smallest_first.free (omega (arith, f.low)))
 
   -- it is at most any that is missing
   pub at_most : (m : ℕ) → is_missing r m ≡ true → smallest_missing r ≤ m

@@ -10,7 +10,7 @@ use Rattle.terms.specs.declared.Refusal.{Refusal}
 use Rattle.terms.specs.Ladder.{◌when◌else◌}
 use Rattle.terms.specs.Answers.{values}
 use Rattle.terms.proofs.Determined.{determined}
-use Rattle.terms.proofs.Numbers.{number-one}
+use Rattle.terms.proofs.Numbers.{number_one}
 use Rattle.receiver_state.specs.declared.Receiver.{Receiver}
 use Rattle.receiver_why.specs.Reasons.{said_why, why_of}
 use Rattle.receiver_why.specs.declared.Reason.{Reason}
@@ -50,7 +50,7 @@ told (W.Refused why) = refused why refl
 same : (a b : Reason) → said_why a ≡ said_why b → Told a → Told b → a ≡ b
 same a b e (refused x p) (refused y q) =
     let s = sym (ap said_why p) ∙ e ∙ ap said_why q in
-    p ∙ ap W.Refused (number-one x y (cc)) ∙ sym q
+    p ∙ ap W.Refused (number_one x y (cc)) ∙ sym q
 same a b e (refused x p) (given l s q) =
     let t = sym (ap said_why p) ∙ e ∙ s in
     let z : ◌≡◌ {A = ℕ} 0 1 = cc in

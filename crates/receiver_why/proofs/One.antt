@@ -14,19 +14,19 @@ use Rattle.receiver_state.specs.declared.Receiver.{Receiver}
 use Rattle.receiver_state.proofs.Facts.{Ruled, ruled}
 use Rattle.receiver_why.specs.Reasons.{Case, below_start, was_taken, is_ready, behind_gap, never_came, not_yet_seen, beyond_span, case_of, said_case, smallest_missing, why_of}
 use Rattle.receiver_why.specs.Stands.{IsHeld, Holds, ExactlyOneCase}
-use Rattle.receiver_why.proofs.Cases.{lacks, below-is, taken_is, beyond_is, unseen-is, never_is, gap_is, ready_is, none_below, is-smallest, at_most, missing_of_lem}
+use Rattle.receiver_why.proofs.Cases.{lacks, below_is, taken_is, beyond_is, unseen_is, never_is, gap_is, ready_is, none_below, is_smallest, at_most, missing_of_lem}
 
 module _ (r : Receiver) (f : Ruled r) (n : ℕ) where
   -- a case that holds is the one that is told
   pub found : (c : Case) → Holds r n c → case_of r n ≡ c
-  found below_start h = below-is r n h
+  found below_start h = below_is r n h
   found was_taken h = taken_is r n h.0 h.1
   found is_ready h =
       let i = h.0 in
       let above : n ≤ smallest_missing r =
       case
       (λ (a : n ≤ smallest_missing r). a)
-      (λ (a : n ≤ smallest_missing r → ⊥). absurd (true≢false (sym (is-smallest r f (omega (arith, i.seen))) ∙ h.1 (smallest_missing r) (omega arith))))
+      (λ (a : n ≤ smallest_missing r → ⊥). absurd (true≢false (sym (is_smallest r f (omega (arith, i.seen))) ∙ h.1 (smallest_missing r) (omega arith))))
       (dec_le n (smallest_missing r)) in
       ready_is r n (omega (arith, f.late, i.new)) i.new (omega (arith, f.far, i.seen)) i.seen (λ z. omega (arith, i.full)) above
   found behind_gap h =
@@ -36,7 +36,7 @@ module _ (r : Receiver) (f : Ruled r) (n : ℕ) where
   found never_came h =
       let l = lacks r n h in
       never_is r n (omega (arith, f.late, l.new)) l.new (omega (arith, f.far, l.seen)) l.seen l.free
-  found not_yet_seen h = unseen-is r n (omega (arith, f.late, f.low, h.0)) (omega (arith, f.low, h.0)) (omega (arith, h.1)) h.0
+  found not_yet_seen h = unseen_is r n (omega (arith, f.late, f.low, h.0)) (omega (arith, f.low, h.0)) (omega (arith, h.1)) h.0
   found beyond_span h = beyond_is r n (omega (arith, f.late)) (omega arith) (omega arith)
 
   -- and one holds
@@ -59,7 +59,7 @@ module _ (r : Receiver) (f : Ruled r) (n : ℕ) where
       (λ (e : mark_of r.marks n ≡ 0 → ⊥).
       let i : IsHeld r n = record { new = omega arith; seen = omega arith; full = omega (arith, e) } in
       case
-      (λ (g : smallest_missing r < n). (behind_gap, (i, (smallest_missing r, g, is-smallest r f (omega arith)))))
+      (λ (g : smallest_missing r < n). (behind_gap, (i, (smallest_missing r, g, is_smallest r f (omega arith)))))
       (λ (g : smallest_missing r < n → ⊥). (is_ready, (i, λ m a. none_below r f m (omega arith))))
       (dec_lt (smallest_missing r) n))
       (ℕ_discrete (mark_of r.marks n) 0))
@@ -69,9 +69,9 @@ module _ (r : Receiver) (f : Ruled r) (n : ℕ) where
       (dec_le n r.head.start.0)
 
 -- the theorem
-pub exactly-one : (r : Receiver) (number : SeqNo) → rules_of r ≡ true → slot_fits r.head.slot ≡ true → (number.0 ≡ 4294967295 → ⊥) → ExactlyOneCase r number
+pub exactly_one : (r : Receiver) (number : SeqNo) → rules_of r ≡ true → slot_fits r.head.slot ≡ true → (number.0 ≡ 4294967295 → ⊥) → ExactlyOneCase r number
 unfolding why_of
-exactly-one r number keeps fits usable =
+exactly_one r number keeps fits usable =
     let f = ruled r keeps in
     let n = number.0 in
     let one = held_one r f n in
@@ -90,7 +90,7 @@ exactly-one r number keeps fits usable =
     smallest is_ready h e = let z : ◌≡◌ {A = ℕ} 0 1 = cc in absurd (omega arith)
     smallest behind_gap h e =
         let f = ruled r keeps in
-        (is-smallest r f (omega (arith, at_most r f h.1.0 h.1.2, h.1.1, h.0.seen)), none_below r f)
+        (is_smallest r f (omega (arith, at_most r f h.1.0 h.1.2, h.1.1, h.0.seen)), none_below r f)
     smallest never_came h e = let z : ◌≡◌ {A = ℕ} 0 1 = cc in absurd (omega arith)
     smallest not_yet_seen h e = let z : ◌≡◌ {A = ℕ} 0 1 = cc in absurd (omega arith)
     smallest beyond_span h e = let z : ◌≡◌ {A = ℕ} 0 1 = cc in absurd (omega arith)

@@ -20,9 +20,9 @@ pub first_here : (marks : List ℕ) (first more : ℕ) → mark_of marks first �
 unfolding first_missing
 first_here marks first more z = simp (eq-eqb _ _ z)
 
-pub first-later : (marks : List ℕ) (first more : ℕ) → (mark_of marks first ≡ 0 → ⊥) → first_missing marks first (suc more) ≡ first_missing marks (suc first) more
+pub first_later : (marks : List ℕ) (first more : ℕ) → (mark_of marks first ≡ 0 → ⊥) → first_missing marks first (suc more) ≡ first_missing marks (suc first) more
 unfolding first_missing
-first-later marks first more z = simp (ne_eqb _ _ z)
+first_later marks first more z = simp (ne_eqb _ _ z)
 
 pub first_none : (marks : List ℕ) (first : ℕ) → first_missing marks first 0 ≡ first
 unfolding first_missing
@@ -40,13 +40,13 @@ later marks first more found full f = record {
   free = λ h. f.free (omega arith);
 }
 
-pub first-is : (marks : List ℕ) (first more : ℕ) → First marks first more (first_missing marks first more)
-first-is marks first zero = rw (first_none marks first) (record { low = omega arith; high = omega arith; before = λ k a b. absurd (omega arith); free = λ h. absurd (omega arith) })
-first-is marks first (suc more) =
+pub first_is : (marks : List ℕ) (first more : ℕ) → First marks first more (first_missing marks first more)
+first_is marks first zero = rw (first_none marks first) (record { low = omega arith; high = omega arith; before = λ k a b. absurd (omega arith); free = λ h. absurd (omega arith) })
+first_is marks first (suc more) =
     case
     (λ (z : mark_of marks first ≡ 0).
     rw (first_here marks first more z) (record { low = omega arith; high = omega arith; before = λ k a b. absurd (omega arith); free = λ h. z }))
-    (λ (z : mark_of marks first ≡ 0 → ⊥). rw (first-later marks first more z) (later marks first more (first_missing marks (suc first) more) z (first-is marks (suc first) more)))
+    (λ (z : mark_of marks first ≡ 0 → ⊥). rw (first_later marks first more z) (later marks first more (first_missing marks (suc first) more) z (first_is marks (suc first) more)))
     (ℕ_discrete (mark_of marks first) 0)
 
 -- a step of the search
@@ -61,7 +61,7 @@ module _ (marks : List ℕ) (n last : ℕ) where
       let e : last + 1 - n ≡ suc (last - n) = omega arith in
       let g : last + 1 - (n + 1) ≡ last - n = omega arith in
       let h : n + 1 ≡ suc n = omega arith in
-      rw (e, g, h) (sym (first-later marks n (last - n) z))
+      rw (e, g, h) (sym (first_later marks n (last - n) z))
 
   pub past_end : last < n → n ≡ first_missing marks n (last + 1 - n)
   past_end a =

@@ -21,21 +21,21 @@ pub record Agrees (run : Run) (number : SeqNo) : Type 0 where
   pub the : Case
   pub told : why_at run number ≡ said_case (end_of run).state the
   -- at or below the start exactly if it is at most s
-  pub below-is : (the ≡ below_start) ↔ (number.0 ≤ run.s.0)
+  pub below_is : (the ≡ below_start) ↔ (number.0 ≤ run.s.0)
   -- taken exactly if a take gave it
   pub taken_is : (the ≡ was_taken) ↔ Taken run number.0
   -- ready or behind a gap exactly if it is held
-  pub held-is : ((the ≡ is_ready) ⊎ (the ≡ behind_gap)) ↔ Held run number.0
+  pub held_is : ((the ≡ is_ready) ⊎ (the ≡ behind_gap)) ↔ Held run number.0
   -- missing exactly if it is in range and was never accepted
-  pub missing-is : (the ≡ never_came) ↔ ((run.s.0 < number.0) × (number.0 ≤ highest_accepted run) × NeverAccepted run number.0)
+  pub missing_is : (the ≡ never_came) ↔ ((run.s.0 < number.0) × (number.0 ≤ highest_accepted run) × NeverAccepted run number.0)
   -- not yet seen exactly if it is above the highest accepted, and less than 512 from the next to take
-  pub unseen-is : (the ≡ not_yet_seen) ↔ ((highest_accepted run < number.0) × (number.0 < next_after run + 512))
+  pub unseen_is : (the ≡ not_yet_seen) ↔ ((highest_accepted run < number.0) × (number.0 < next_after run + 512))
   -- beyond the span exactly if it is 512 or more from it
   pub beyond_is : (the ≡ beyond_span) ↔ (next_after run + 512 ≤ number.0)
 
 -- It is proved of every run (proofs/Agreed).
 pub record AgreesThroughout (run : Run) : Type 0 where
   -- the start in the state is the run's s, whatever was called
-  pub start-kept : (end_of run).state.head.start.0 ≡ run.s.0
+  pub start_kept : (end_of run).state.head.start.0 ≡ run.s.0
   pub agrees : (number : SeqNo) → (number.0 ≡ 4294967295 → ⊥) → Agrees run number
   pub last_number_is : (number : SeqNo) → number.0 ≡ 4294967295 → why_at run number ≡ last_number

@@ -81,10 +81,10 @@ module _ (p : Packet) (packet : List ℕ) (clock : ℕ) (sender : Sender) where
   pub nacks_inside : read_of packet ≡ values p → 22 + 4 * nack_count packet ≤ length packet
   nacks_inside e = (readable packet p e).nacks_fit
 
-  pub acks-some : read_of packet ≡ values p → bit 10 p.flags ≡ false → (nacks : List ℕ) → nacks ≡ numbers_at 4 (nack_count packet) 17 packet → (answer : Tally) (state : Sender)
+  pub acks_some : read_of packet ≡ values p → bit 10 p.flags ≡ false → (nacks : List ℕ) → nacks ≡ numbers_at 4 (nack_count packet) 17 packet → (answer : Tally) (state : Sender)
       → ◌≡◌ {A = S.Outcome} (record { says = S.said_tally answer; state = state; lent = [] }) (acks_of sender p.ack_through.0 nacks clock)
       → ◌≡◌ {A = AcksHere} (record { told = S.said_tally answer ∷ []; sender = state }) (acks_here p packet clock sender)
-  acks-some read e nacks are answer state is =
+  acks_some read e nacks are answer state is =
       rw e
       (ap (λ (o : S.Outcome). record { told = o.says ∷ []; sender = o.state })
       (is ∙ ap (λ (l : List ℕ). acks_of sender p.ack_through.0 l clock) (are ∙ sym (nack_numbers packet p read))))
@@ -94,20 +94,20 @@ module _ (p : Packet) (packet : List ℕ) (receiver : Receiver) (store : List �
   pub accept_none : p.seq_nro.0 ≡ 0 → ◌≡◌ {A = AcceptHere} (record { told = []; receiver = receiver; store = store }) (accept_here p packet receiver store)
   accept_none e = rw (eq-eqb p.seq_nro.0 0 e)
 
-  pub accept-some : (p.seq_nro.0 ≡ 0 → ⊥) → (payload after : List ℕ) → payload ≡ payload_of packet → (answer : Answer) (state : Receiver)
+  pub accept_some : (p.seq_nro.0 ≡ 0 → ⊥) → (payload after : List ℕ) → payload ≡ payload_of packet → (answer : Answer) (state : Receiver)
       → ◌≡◌ {A = R.Outcome} (record { says = said answer; state = state; lent = after }) (accept_of receiver p.seq_nro payload store)
       → ◌≡◌ {A = AcceptHere} (record { told = said answer ∷ []; receiver = state; store = after }) (accept_here p packet receiver store)
-  accept-some n payload after e answer state is =
+  accept_some n payload after e answer state is =
       rw (ne_eqb p.seq_nro.0 0 n)
       (ap (λ (o : R.Outcome). record { told = o.says ∷ []; receiver = o.state; store = o.lent })
       (is ∙ ap (λ (l : List ℕ). accept_of receiver p.seq_nro l store) e))
 
 -- the packet
 module _ (packet : List ℕ) (clock : ℕ) (receiver : Receiver) (sender : Sender) (store : List ℕ) where
-  pub not-read : (number : ℕ) → read_of packet ≡ refusal number
+  pub not_read : (number : ℕ) → read_of packet ≡ refusal number
       → ◌≡◌ {A = Arriving} (record { read = refusal number; acks = []; accept = []; receiver = receiver; sender = sender; store = store }) (arrive_of packet clock receiver sender store)
   unfolding arrive_of
-  not-read number e = ap (λ (s : Saying Packet). arrives_by s packet clock receiver sender store) (sym e)
+  not_read number e = ap (λ (s : Saying Packet). arrives_by s packet clock receiver sender store) (sym e)
 
   pub was_read : (p : Packet) → read_of packet ≡ values p → (a : AcksHere) → a ≡ acks_here p packet clock sender → (b : AcceptHere) → b ≡ accept_here p packet receiver store
       → ◌≡◌ {A = Arriving} (record { read = values []; acks = a.told; accept = b.told; receiver = b.receiver; sender = a.sender; store = b.store })

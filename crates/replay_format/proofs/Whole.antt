@@ -106,26 +106,26 @@ module _ (kind fewer : ℕ) (again : (bytes : List ℕ) → length bytes < fewer
       (record { kind = kind; bytes = take size bytes } then_night after))
       (again (drop size bytes) (omega (arith, length-drop size bytes)))
 
-  behind-kind : (rest : List ℕ) → length rest < fewer
+  behind_kind : (rest : List ℕ) → length rest < fewer
       → from (at_length kind) rest ≡ (ends_with 29 when ltb (length rest) 2 else said_by (front_of16 rest) (drop 2 rest))
-  behind-kind [] l = refl
-  behind-kind (high ∷ []) l = refl
-  behind-kind (high ∷ low ∷ bytes) l =
+  behind_kind [] l = refl
+  behind_kind (high ∷ []) l = refl
+  behind_kind (high ∷ low ∷ bytes) l =
       rw (le-ltb (suc (suc (length bytes))) 2 (omega arith))
       (sized (high * 256 + low) bytes (omega arith) (size_fits kind (high * 256 + low)) refl (eqb (high * 256 + low) 0) refl)
 
   placed : (t : Bool) (rest : List ℕ) → length rest < fewer
       → night_in (read_all read_night_byte (at_length kind when t else ended 28) rest)
       ≡ (ends_with 28 when not t else ends_with 29 when ltb (length rest) 2 else said_by (front_of16 rest) (drop 2 rest))
-  placed true rest l = behind-kind rest l
+  placed true rest l = behind_kind rest l
   placed false rest l = rw (stays 28 rest)
 
 -- records, one behind the other
-records-read : (fewer : ℕ) (is_first : Bool) (bytes : List ℕ) → length bytes < fewer → from (before_record is_first) bytes ≡ records_in fewer is_first bytes
-records-read zero is_first bytes h = absurd (omega arith)
-records-read (suc fewer) is_first [] h = refl
-records-read (suc fewer) is_first (kind ∷ rest) h =
-    placed kind fewer (λ bytes l. records-read fewer false bytes l) (has_place is_first kind) rest (omega arith)
+records_read : (fewer : ℕ) (is_first : Bool) (bytes : List ℕ) → length bytes < fewer → from (before_record is_first) bytes ≡ records_in fewer is_first bytes
+records_read zero is_first bytes h = absurd (omega arith)
+records_read (suc fewer) is_first [] h = refl
+records_read (suc fewer) is_first (kind ∷ rest) h =
+    placed kind fewer (λ bytes l. records_read fewer false bytes l) (has_place is_first kind) rest (omega arith)
 
 -- the version, and then the records
 version_read : (most : ℕ) (rest : List ℕ) → length rest ≤ most
@@ -143,7 +143,7 @@ version_read most (d ∷ e ∷ rest) l = rw (le-ltb (suc (suc (suc (suc (suc (le
         → from (in_head 4 when t else ended 27) (e ∷ rest) ≡ (ends_with 27 when not (eqb (d * 256 + e) 1) else records_in most true rest)
     go false p u q = rw (stays 27 (e ∷ rest), ne_eqb (d * 256 + e) 1 (λ h. absurd (omega (arith, eqb-false d 0 p))))
     go true p false q = rw (q, stays 27 rest, ne_eqb (d * 256 + e) 1 (λ h. absurd (omega (arith, eqb-true d 0 p, eqb-false e 1 q))))
-    go true p true q = rw (q, eq-eqb (d * 256 + e) 1 (omega (arith, eqb-true d 0 p, eqb-true e 1 q))) (records-read most true rest (omega arith))
+    go true p true q = rw (q, eq-eqb (d * 256 + e) 1 (omega (arith, eqb-true d 0 p, eqb-true e 1 q))) (records_read most true rest (omega arith))
 
 -- a wrong byte of the mark
 wrong_mark : (bytes : List ℕ) → from (ended 26) bytes ≡ ends_with 26

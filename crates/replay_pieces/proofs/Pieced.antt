@@ -13,7 +13,7 @@ use Rattle.terms.specs.Answers.{Said, refusal, values, ◌unless_refused◌else�
 use Rattle.wire.specs.BigEndian.{is_byte}
 use Rattle.wire.proofs.RoundTrip.{all_take, all_drop}
 use Rattle.portions.specs.Fold.{behind, read_all}
-use Rattle.portions.proofs.Folds.{behind-behind}
+use Rattle.portions.proofs.Folds.{behind_behind}
 use Rattle.portions.proofs.Stops.{in_line}
 use Rattle.replay_format.specs.Night.{Night, night_of}
 use Rattle.replay_format.specs.Bytes.{in_head, before_record, at_length, in_length, in_data, read_night_byte, end_says}
@@ -75,7 +75,7 @@ run r buffer file (size ∷ sizes) h roomy w =
               ap night_left whole ∙ ap (λ (night : Night). record { records = met ++ night.records; ends = night.ends }) (a.refused n q);
           goes = λ given' q.
               let l = a.goes given' q in
-              (whole ∙ ap (behind met) l.0 ∙ behind-behind met then.records (read_all read_night_byte (known_of then.reader then.buffer) then.unused), l.1);
+              (whole ∙ ap (behind met) l.0 ∙ behind_behind met then.records (read_all read_night_byte (known_of then.reader then.buffer) then.unused), l.1);
         }
 
 -- what the end of the file says does not depend on the data that is there
@@ -98,15 +98,15 @@ ends_so : (r : NightReader) (buffer : List ℕ) → reader_rules r ≡ true → 
 unfolding finish_of
 ends_so r buffer h = rw h (end_same r buffer)
 
-start-keeps : reader_rules night_start ≡ true
+start_keeps : reader_rules night_start ≡ true
 unfolding reader_rules
-start-keeps = refl
+start_keeps = refl
 
 pub however_pieced : HoweverPieced
 however_pieced buffer file sizes roomy w done = ⊎_elim used (λ e. refused e.0 e.1) done
   where
     law : RunLaw night_start buffer file (pieces_read night_start buffer file sizes)
-    law = run night_start buffer file sizes start-keeps roomy w
+    law = run night_start buffer file sizes start_keeps roomy w
 
     refused : (number : ℕ) → (pieces_read night_start buffer file sizes).refused ≡ refusal number → night_pieced (pieces_of buffer file sizes) ≡ night_of file
     refused number e = rw e (sym (law.refused number e) ∙ night_read file)

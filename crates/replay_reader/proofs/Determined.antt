@@ -4,8 +4,8 @@ use mathlib.Core.Path.{◌≡◌, refl, ap}
 use mathlib.Core.Bool.{Bool}
 use mathlib.Core.List.{List}
 use native.Mathlib.Omega.{arith}
-use Rattle.terms.proofs.Numbers.{number-one}
-use Rattle.terms.proofs.Determined.{determined, said-one}
+use Rattle.terms.proofs.Numbers.{number_one}
+use Rattle.terms.proofs.Determined.{determined, said_one}
 use Rattle.terms.specs.Answers.{said}
 use Rattle.terms.specs.declared.Answer.{Answer}
 use Rattle.replay_format.specs.Night.{has_place, size_fits}
@@ -27,7 +27,7 @@ met_one M.More M.More e = refl
 met_one M.More (M.Refused y) e = let z : ◌≡◌ {A = ℕ} 0 1 = cc in absurd (omega arith)
 met_one (M.Refused x) (M.Record l n) e = let z : ◌≡◌ {A = ℕ} 0 1 = cc in absurd (omega arith)
 met_one (M.Refused x) M.More e = let z : ◌≡◌ {A = ℕ} 0 1 = cc in absurd (omega arith)
-met_one (M.Refused x) (M.Refused y) e = ap M.Refused (number-one x y (cc))
+met_one (M.Refused x) (M.Refused y) e = ap M.Refused (number_one x y (cc))
 
 pub start_determined : (a b : NightReader) → a ≡ night_start → b ≡ night_start → a ≡ b
 start_determined a b p q = determined p q
@@ -39,7 +39,7 @@ read_on_determined r portion buffer a b x y p q =
     (λ k. record { answer = met_one a.answer b.answer (ap (λ (o : Onwards). o.says) e) k; used = (e k).used; reader = (e k).reader }, ap (λ (o : Onwards). o.buffer) e)
 
 pub finish_determined : (r : NightReader) (a b : Answer) → said a ≡ finish_of r → said b ≡ finish_of r → a ≡ b
-finish_determined r a b p q = said-one a b (determined p q)
+finish_determined r a b p q = said_one a b (determined p q)
 
 pub has_place_determined : (first : Bool) (kind : ℕ) (a b : Bool) → a ≡ has_place first kind → b ≡ has_place first kind → a ≡ b
 has_place_determined first kind a b p q = determined p q

@@ -28,11 +28,11 @@ pub place_other : (first : Bool) (kind : ℕ) → first ≡ false → (leb 1 kin
 place_other first kind e = rw e
 
 module _ (kind size : ℕ) where
-  pub start-size : kind ≡ 0 → eqb size 28 ≡ size_fits kind size
-  start-size a = rw (eq-eqb kind 0 a)
+  pub start_size : kind ≡ 0 → eqb size 28 ≡ size_fits kind size
+  start_size a = rw (eq-eqb kind 0 a)
 
-  pub clock-size : (kind ≡ 0 → ⊥) → kind ≡ 3 → eqb size 8 ≡ size_fits kind size
-  clock-size a b = rw (ne_eqb kind 0 a, eq-eqb kind 3 b)
+  pub clock_size : (kind ≡ 0 → ⊥) → kind ≡ 3 → eqb size 8 ≡ size_fits kind size
+  clock_size a b = rw (ne_eqb kind 0 a, eq-eqb kind 3 b)
 
   pub path_size : (kind ≡ 0 → ⊥) → (kind ≡ 3 → ⊥) → kind ≡ 4 → eqb size 1 ≡ size_fits kind size
   path_size a b d = rw (ne_eqb kind 0 a, ne_eqb kind 3 b, eq-eqb kind 4 d)
@@ -142,8 +142,8 @@ module _ (first : Bool) (kind byte : ℕ) (is : kind ≡ byte) where
 
 -- the low byte of a length
 module _ (kind high low byte : ℕ) (is : low ≡ byte) where
-  pub length-unfit : size_fits kind (high * 256 + low) ≡ false → StepsTo (S.Refused R.RecordCut) (λ _. read_night_byte (in_length kind high) byte)
-  length-unfit h = subst (λ (b : ℕ). StepsTo (S.Refused R.RecordCut) (λ _. read_night_byte (in_length kind high) b)) is (record { to = λ _. rw h; keeps = refl })
+  pub length_unfit : size_fits kind (high * 256 + low) ≡ false → StepsTo (S.Refused R.RecordCut) (λ _. read_night_byte (in_length kind high) byte)
+  length_unfit h = subst (λ (b : ℕ). StepsTo (S.Refused R.RecordCut) (λ _. read_night_byte (in_length kind high) b)) is (record { to = λ _. rw h; keeps = refl })
 
   pub length_none : size_fits kind (high * 256 + low) ≡ true → high * 256 + low ≡ 0 → StepsTo (S.Complete kind) (λ _. read_night_byte (in_length kind high) byte)
   length_none h e =

@@ -32,8 +32,8 @@ acked_out_lem numbers marks through nacks h i a = rw (beyond marks i 0 (omega ar
 
 module _ (s : Sender) (row : length s.numbers ≡ 192) (table : length s.marks ≡ 192) (width : s.next.0 ≤ 4294967295) (through : ℕ) (nacks flags : List ℕ)
     (made : Flags (acked_at s.numbers s.marks through nacks) flags) where
-  pub flags-same : marked_with 1 flags ≡ acked_at s.numbers s.marks through nacks
-  flags-same = λ k i. flags_are (acked_at s.numbers s.marks through nacks) flags made (acked_out_lem s.numbers s.marks through nacks table) i k
+  pub flags_same : marked_with 1 flags ≡ acked_at s.numbers s.marks through nacks
+  flags_same = λ k i. flags_are (acked_at s.numbers s.marks through nacks) flags made (acked_out_lem s.numbers s.marks through nacks table) i k
 
   -- a flagged place is in flight
   flagged : (i : ℕ) → flags ! i ≡ 1 → s.marks ! i ≡ 2
@@ -55,12 +55,12 @@ module _ (s : Sender) (row : length s.numbers ≡ 192) (table : length s.marks �
         width = width;
       }
 
-  pub acks-made : (clock : ℕ) (m : Measured)
+  pub acks_made : (clock : ℕ) (m : Measured)
       → Measures (measured_by s.numbers s.sent s.resent clock) s.timing s.window (numbers_where s.numbers s.next.0 (marked_with 1 flags)) m
       → (state : Sender) → state ≡ freed_by s m.timing m.window clock (marked_with 1 flags)
       → ◌≡◌ {A = Outcome} (record { says = values (m.count ∷ []); state = state; lent = [] })
       (record { says = values (length (acked_of s through nacks) ∷ []); state = acks_leave s through nacks clock; lent = [] })
-  acks-made clock m f state e = rw (e, f.times, f.grows, f.counts) (ap by flags-same) where
+  acks_made clock m f state e = rw (e, f.times, f.grows, f.counts) (ap by flags_same) where
     by : (ℕ → Bool) → Outcome
     by gone =
         let l = numbers_where s.numbers s.next.0 gone in
@@ -71,14 +71,14 @@ module _ (s : Sender) (row : length s.numbers ≡ 192) (table : length s.marks �
         }
 
 module _ (s : Sender) (through : ℕ) (nacks : List ℕ) (clock : ℕ) (answer : Answer) (judged : said answer ≡ acks_refusal s through (length nacks) clock) where
-  pub acks-kept : (why : Refusal) → answer ≡ A.Refused why → ◌≡◌ {A = Outcome} (record { says = refusal (number_of why); state = s; lent = [] }) (acks_of s through nacks clock)
+  pub acks_kept : (why : Refusal) → answer ≡ A.Refused why → ◌≡◌ {A = Outcome} (record { says = refusal (number_of why); state = s; lent = [] }) (acks_of s through nacks clock)
   unfolding acks_of
-  acks-kept why is = let e : acks_refusal s through (length nacks) clock ≡ refusal (number_of why) = sym judged ∙ ap said is in simp e
+  acks_kept why is = let e : acks_refusal s through (length nacks) clock ≡ refusal (number_of why) = sym judged ∙ ap said is in simp e
 
   pub acks_pass : answer ≡ A.Done → ◌≡◌ {A = Outcome} (record { says = values (length (acked_of s through nacks) ∷ []); state = acks_leave s through nacks clock; lent = [] }) (acks_of s through nacks clock)
   unfolding acks_of
   acks_pass is = let e : acks_refusal s through (length nacks) clock ≡ values [] = sym judged ∙ ap said is in simp e
 
-  pub acks-rules : answer ≡ A.Done → rules s ≡ true
+  pub acks_rules : answer ≡ A.Done → rules s ≡ true
   unfolding acks_refusal
-  acks-rules is = not-false (rules s) (passed-rung 11 (not (rules s)) _ [] (sym judged ∙ ap said is)).0
+  acks_rules is = not-false (rules s) (passed-rung 11 (not (rules s)) _ [] (sym judged ∙ ap said is)).0

@@ -34,7 +34,7 @@ record Held (l : Limits) (i : ℕ) (p : Place) : Type 0 where
   long : (p.mark ≡ 0 → ⊥) → 22 ≤ p.size
   short : (p.mark ≡ 0 → ⊥) → p.size ≤ l.chunk + 1044
   once_or_more : p.resent ≤ 1
-  not-sent : p.mark ≡ 1 → p.sent ≡ 0
+  not_sent : p.mark ≡ 1 → p.sent ≡ 0
   unresent : p.mark ≡ 1 → p.resent ≡ 0
   low : p.mark ≡ 1 → p.number.0 < l.next.0
   known : p.mark ≤ 2
@@ -76,7 +76,7 @@ module _ (l : Limits) (i : ℕ) (p : Place) where
         long = λ n. absurd (n z);
         short = λ n. absurd (n z);
         once_or_more = omega (arith, none);
-        not-sent = λ e. absurd (omega arith);
+        not_sent = λ e. absurd (omega arith);
         unresent = λ e. none;
         low = λ e. absurd (omega arith);
         known = omega arith;
@@ -105,7 +105,7 @@ module _ (l : Limits) (i : ℕ) (p : Place) where
         long = λ _. ltb-false _ _ p4.0;
         short = λ _. ltb-false _ _ p5.0;
         once_or_more = ltb-false _ _ p6.0;
-        not-sent = λ _. eqb-true _ _ (and_left (eqb sent 0) _ u);
+        not_sent = λ _. eqb-true _ _ (and_left (eqb sent 0) _ u);
         unresent = λ _. eqb-true _ _ (and_left (eqb resent 0) _ v);
         low = λ _. ltb-true _ _ (and_right (eqb resent 0) (ltb number l.next.0) v);
         known = omega arith;
@@ -125,7 +125,7 @@ module _ (l : Limits) (i : ℕ) (p : Place) where
         long = λ _. ltb-false _ _ p4.0;
         short = λ _. ltb-false _ _ p5.0;
         once_or_more = ltb-false _ _ p6.0;
-        not-sent = λ e. absurd (o e);
+        not_sent = λ e. absurd (o e);
         unresent = λ e. absurd (o e);
         low = λ e. absurd (o e);
         known = ltb-false _ _ p8.0;
@@ -147,7 +147,7 @@ module _ (l : Limits) (i : ℕ) (p : Place) where
       let t5 = le-ltb (l.chunk + 1044) size (h.short n) in
       let t6 = le-ltb 1 resent h.once_or_more in
       case
-      (λ (w : mark ≡ 1). simp (ne_eqb mark 0 n, t2, t3, t4, t5, t6, eq-eqb mark 1 w, eq-eqb sent 0 (h.not-sent w), eq-eqb resent 0 (h.unresent w), lt-ltb _ _ (h.low w)))
+      (λ (w : mark ≡ 1). simp (ne_eqb mark 0 n, t2, t3, t4, t5, t6, eq-eqb mark 1 w, eq-eqb sent 0 (h.not_sent w), eq-eqb resent 0 (h.unresent w), lt-ltb _ _ (h.low w)))
       (λ (o : mark ≡ 1 → ⊥).
       let f : mark ≡ 2 = omega (arith, h.known, n, o) in
       simp (ne_eqb mark 0 n, t2, t3, t4, t5, t6, ne_eqb mark 1 o, le-ltb 2 mark h.known, lt-ltb _ _ (h.lower f), le-leb _ _ (h.past f)))
@@ -178,9 +178,9 @@ module _ (s : Sender) (table : length s.marks ≡ 192) (row : length s.numbers �
       same))))))
 
   -- and numbers that are alone are distinct
-  alone-apart : every (length s.numbers) (alone_at s.numbers) ≡ true → (i j : ℕ) → i < j → j < 192 → (s.numbers ! j ≡ 0 → ⊥) → s.numbers ! i ≡ s.numbers ! j → ⊥
+  alone_apart : every (length s.numbers) (alone_at s.numbers) ≡ true → (i j : ℕ) → i < j → j < 192 → (s.numbers ! j ≡ 0 → ⊥) → s.numbers ! i ≡ s.numbers ! j → ⊥
   unfolding alone_at
-  alone-apart t i j h k some same =
+  alone_apart t i j h k some same =
       let a = every_at (alone_at s.numbers) (length s.numbers) t j (omega arith) in
       let b = unless_at (all (differs (s.numbers ! j)) (take j s.numbers)) (eqb (s.numbers ! j) 0) a (ne_eqb _ _ some) in
       let m : i < length (take j s.numbers) = simp length-take (omega arith) in
@@ -211,7 +211,7 @@ module _ (s : Sender) (table : length s.marks ≡ 192) (row : length s.numbers �
         long = r.long i (omega arith);
         short = r.short i (omega arith);
         once_or_more = r.once_or_more i (omega arith);
-        not-sent = r.not-sent i (omega arith);
+        not_sent = r.not_sent i (omega arith);
         unresent = r.unresent i (omega arith);
         low = λ w. r.low i (omega arith) (λ z. omega arith);
         known = r.known i (omega arith);
@@ -226,8 +226,8 @@ module _ (s : Sender) (table : length s.marks ≡ 192) (row : length s.numbers �
         past = λ f. r.past i (omega arith);
       }))
 
-  module _ (alone : every (length s.numbers) (alone_at s.numbers) ≡ true) (few : count_of 2 s.marks ≤ 128) (next-some : 1 ≤ s.next.0)
-      (due : timer_fits s.timer s.clock ≡ true) (window-some : 1 ≤ s.window) (window_most : s.window ≤ 128)
+  module _ (alone : every (length s.numbers) (alone_at s.numbers) ≡ true) (few : count_of 2 s.marks ≤ 128) (next_some : 1 ≤ s.next.0)
+      (due : timer_fits s.timer s.clock ≡ true) (window_some : 1 ≤ s.window) (window_most : s.window ≤ 128)
       (timing : timing_fits s.timing ≡ true) (clock_most : s.clock ≤ 1000000000000000) where
     ruled_by : every 192 test ≡ true → Ruled s
     ruled_by t =
@@ -238,8 +238,8 @@ module _ (s : Sender) (table : length s.marks ≡ 192) (row : length s.numbers �
         record {
           distinct = λ i j h k o a b e.
               case
-              (λ (q : i < j). alone-apart alone i j q (omega arith) (λ z. omega (arith, (f j k).some b)) e)
-              (λ (q : i < j → ⊥). alone-apart alone j i (omega (arith, o)) (omega arith) (λ z. omega (arith, (f i h).some a)) (sym e))
+              (λ (q : i < j). alone_apart alone i j q (omega arith) (λ z. omega (arith, (f j k).some b)) e)
+              (λ (q : i < j → ⊥). alone_apart alone j i (omega (arith, o)) (omega arith) (λ z. omega (arith, (f i h).some a)) (sym e))
               (dec_lt i j);
           low = λ i h n.
               case (f i h).low
@@ -247,25 +247,25 @@ module _ (s : Sender) (table : length s.marks ≡ 192) (row : length s.numbers �
               (ℕ_discrete (s.marks ! i) 1);
           order = λ i j h k a b. omega (arith, (f i h).lower a, least j k b);
           some = λ i h. (f i h).some;
-          next-some = next-some;
+          next_some = next_some;
           shut = λ i h a. case (λ (z : s.marks ! i ≡ 0). z) (λ (n : s.marks ! i ≡ 0 → ⊥). absurd (omega (arith, (f i h).inside n))) (ℕ_discrete (s.marks ! i) 0);
           no_number = λ i h. (f i h).no_number;
           no_length = λ i h. (f i h).no_size;
           no_time = λ i h. (f i h).no_time;
           no_resent = λ i h. (f i h).no_resent;
-          not-sent = λ i h. (f i h).not-sent;
+          not_sent = λ i h. (f i h).not_sent;
           few = few;
           past = λ i h.
               case
               (λ (z : s.marks ! i ≡ 0). omega (arith, (f i h).no_time z))
               (λ (n : s.marks ! i ≡ 0 → ⊥).
               case
-              (λ (w : s.marks ! i ≡ 1). omega (arith, (f i h).not-sent w))
+              (λ (w : s.marks ! i ≡ 1). omega (arith, (f i h).not_sent w))
               (λ (o : s.marks ! i ≡ 1 → ⊥). (f i h).past (omega (arith, (f i h).known, n, o)))
               (ℕ_discrete (s.marks ! i) 1))
               (ℕ_discrete (s.marks ! i) 0);
           due = due;
-          window-some = window-some;
+          window_some = window_some;
           window_most = window_most;
           timing = timing;
           long = λ i h. (f i h).long;

@@ -24,7 +24,7 @@ use Rattle.sender_state.proofs.Replaced.{replaced_at}
 use Rattle.sender_meaning.specs.Meaning.{Standing, unmade, waits, flies, gone, mark_of, standing, does_fly, Sound}
 use Rattle.sender_meaning.specs.Steps.{goes_again, resent_as}
 use Rattle.sender_meaning.proofs.Counts.{by_bool, none_in}
-use Rattle.sender_meaning.proofs.Stands.{in_flight_is, facts, own_place, marked_in, marked_is, flies-told}
+use Rattle.sender_meaning.proofs.Stands.{in_flight_is, facts, own_place, marked_in, marked_is, flies_told}
 
 -- what is in the front of a run's front is in the run
 module _ (q : ℕ → Bool) where
@@ -71,16 +71,16 @@ module _ (s : Sender) (store : List ℕ) (sound : Sound s store) where
   pub flies_there : (i : ℕ) → i < 192 → does_fly (standing s store (s.numbers ! i)) ≡ true → s.marks ! i ≡ 2
   flies_there i h d =
       let n = s.numbers ! i in
-      let e : mark_of s n ≡ 2 = eqb-true (mark_of s n) 2 (and_right (ltb n s.next.0) (is_flying (mark_of s n)) (flies-told s store n ∙ d)) in
+      let e : mark_of s n ≡ 2 = eqb-true (mark_of s n) 2 (and_right (ltb n s.next.0) (is_flying (mark_of s n)) (flies_told s store n ∙ d)) in
       let full : mark_of s n ≡ 0 → ⊥ = λ z. omega arith in
       let r = facts s store sound in
       case
       (λ (z : s.marks ! i ≡ 0).
       absurd (omega (
         arith,
-        r.no_number i (omega (arith, sound.marks-long)) z,
+        r.no_number i (omega (arith, sound.marks_long)) z,
         marked_is s store sound n full,
-        r.some (place_of s.numbers n) (omega (arith, sound.marks-long, marked_in s store sound n full)) full,
+        r.some (place_of s.numbers n) (omega (arith, sound.marks_long, marked_in s store sound n full)) full,
       )))
       (λ (o : s.marks ! i ≡ 0 → ⊥). ap (λ (k : ℕ). s.marks ! k) (sym (own_place s store sound i h o)) ∙ e)
       (ℕ_discrete (s.marks ! i) 0)
@@ -97,25 +97,25 @@ module _ (s : Sender) (store : List ℕ) (sound : Sound s store) where
     retimed_keeps : Ruled retimed
     retimed_keeps =
         let r = facts s store sound in
-        let l = sound.marks-long in
+        let l = sound.marks_long in
         record {
           distinct = r.distinct;
           low = r.low;
           order = r.order;
           some = r.some;
-          next-some = r.next-some;
+          next_some = r.next_some;
           shut = r.shut;
           no_number = r.no_number;
           no_length = r.no_length;
           no_time = λ i h z. quiet i (omega arith) (λ e. omega arith) ∙ r.no_time i h z;
           no_resent = λ i h z. once i (omega arith) (λ e. omega arith) ∙ r.no_resent i h z;
-          not-sent = λ i h w. quiet i (omega arith) (λ e. omega arith) ∙ r.not-sent i h w;
+          not_sent = λ i h w. quiet i (omega arith) (λ e. omega arith) ∙ r.not_sent i h w;
           unresent = λ i h w. once i (omega arith) (λ e. omega arith) ∙ r.unresent i h w;
           once_or_more = λ i h. flag i (omega arith);
           few = r.few;
           past = λ i h. past i (omega arith);
           due = due;
-          window-some = least;
+          window_some = least;
           window_most = top;
           timing = fits;
           long = r.long;
@@ -126,22 +126,22 @@ module _ (s : Sender) (store : List ℕ) (sound : Sound s store) where
 
     pub retimed_sound : Sound retimed store
     retimed_sound = record {
-      numbers-long = sound.numbers-long;
-      lengths-long = sound.lengths-long;
-      sent-long = long;
-      resent-long = flagged;
-      marks-long = sound.marks-long;
+      numbers_long = sound.numbers_long;
+      lengths_long = sound.lengths_long;
+      sent_long = long;
+      resent_long = flagged;
+      marks_long = sound.marks_long;
       keeps = rules_of_lem retimed retimed_keeps;
       fits = sound.fits;
       width = sound.width;
     }
 
   -- the numbers that pass fly since the clock, with the packets that they had, and every other number stands as it stood
-  pub resent-means : (p : ℕ → Bool) (window : ℕ) (timing : Timing) (timer : Timer) (clock n : ℕ)
+  pub resent_means : (p : ℕ → Bool) (window : ℕ) (timing : Timing) (timer : Timer) (clock n : ℕ)
       → standing (state_of s.chunk s.count s.next.0 window timing timer clock (stamping (places_of s) (λ i. p (s.numbers ! i)) clock)) store n
       ≡ resent_as p clock n (standing s store n)
   unfolding standing
-  resent-means p window timing timer clock n =
+  resent_means p window timing timer clock n =
       case
       (λ (a : s.next.0 ≤ n). rw (le-leb _ _ a))
       (λ (a : s.next.0 ≤ n → ⊥).
@@ -153,7 +153,7 @@ module _ (s : Sender) (store : List ℕ) (sound : Sound s store) where
       (λ (f : mark_of s n ≡ 2).
       let full : mark_of s n ≡ 0 → ⊥ = λ z. omega arith in
       let inside = marked_in s store sound n full in
-      let is = replaced_at clock (λ i. p (s.numbers ! i)) s.sent (place_of s.numbers n) (omega (arith, sound.sent-long)) in
+      let is = replaced_at clock (λ i. p (s.numbers ! i)) s.sent (place_of s.numbers n) (omega (arith, sound.sent_long)) in
       rw (f, is, marked_is s store sound n full) (by_bool (p n) (λ t. rw t) (λ g. rw g)))
       (λ (g : mark_of s n ≡ 2 → ⊥). rw (ne_eqb _ _ o, ne_eqb _ _ g))
       (ℕ_discrete (mark_of s n) 2))

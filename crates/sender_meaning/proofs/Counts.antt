@@ -47,13 +47,13 @@ none_in [] t n = refl
 none_in (x ∷ l) t n = absurd (not-suc-le-zero (leb-true (length (x ∷ l)) 0 t))
 
 -- tests that agree have the same run, and one that passes at one number more has one more in it
-pub run-same : (p q : ℕ → Bool) → ((n : ℕ) → p n ≡ q n) → (from count : ℕ) → run p from count ≡ run q from count
-run-same p q f from count = ap (λ (t : ℕ → Bool). run t from count) (λ k n. f n k)
+pub run_same : (p q : ℕ → Bool) → ((n : ℕ) → p n ≡ q n) → (from count : ℕ) → run p from count ≡ run q from count
+run_same p q f from count = ap (λ (t : ℕ → Bool). run t from count) (λ k n. f n k)
 
-pub run-within : (p q : ℕ → Bool) (count from : ℕ) → ((n : ℕ) → from ≤ n → n < from + count → p n ≡ q n) → run p from count ≡ run q from count
+pub run_within : (p q : ℕ → Bool) (count from : ℕ) → ((n : ℕ) → from ≤ n → n < from + count → p n ≡ q n) → run p from count ≡ run q from count
 unfolding run
-run-within p q zero from f = refl
-run-within p q (suc count) from f = rw (f from (omega arith) (omega arith), run-within p q count (suc from) (λ n a b. f n (omega arith) (omega arith)))
+run_within p q zero from f = refl
+run_within p q (suc count) from f = rw (f from (omega arith) (omega arith), run_within p q count (suc from) (λ n a b. f n (omega arith) (omega arith)))
 
 module _ (p q : ℕ → Bool) (x : ℕ) (others : (n : ℕ) → (n ≡ x → ⊥) → p n ≡ q n) where
   after : (count from : ℕ) → x < from → run p from count ≡ run q from count
@@ -93,7 +93,7 @@ marked_count wanted next some (x ∷ l) (m ∷ k) long low lone =
     run_more p q x others (rw (eq-eqb x x refl, eq-eqb m wanted e)) absent next 0 (omega arith) (omega (arith, low 0 (omega arith) e))
     ∙ rw (eq-eqb m wanted e) (ap suc rest ∙ (omega arith)))
     (λ (o : m ≡ wanted → ⊥).
-    ap length (run-same p q (λ n. case (λ (e : n ≡ x). rw (e, eq-eqb x x refl, ne_eqb m wanted o) (sym absent)) (others n) (ℕ_discrete n x)) 0 next)
+    ap length (run_same p q (λ n. case (λ (e : n ≡ x). rw (e, eq-eqb x x refl, ne_eqb m wanted o) (sym absent)) (others n) (ℕ_discrete n x)) 0 next)
     ∙ rw (ne_eqb m wanted o) (rest ∙ (omega arith)))
     (ℕ_discrete m wanted) where
       p : ℕ → Bool
@@ -131,16 +131,16 @@ count_freed x some p i (y ∷ l) =
     (λ f. rw f (omega arith))
 
 -- the head of a run is its lowest number
-pub run-lowest : (p : ℕ → Bool) (n : ℕ) → p n ≡ true → (count from : ℕ) → from ≤ n → n < from + count → run p from count ! 0 ≤ n
+pub run_lowest : (p : ℕ → Bool) (n : ℕ) → p n ≡ true → (count from : ℕ) → from ≤ n → n < from + count → run p from count ! 0 ≤ n
 unfolding run
-run-lowest p n t zero from a b = absurd (omega arith)
-run-lowest p n t (suc count) from a b =
+run_lowest p n t zero from a b = absurd (omega arith)
+run_lowest p n t (suc count) from a b =
     by_bool (p from)
     (λ e. rw e a)
     (λ e.
     case
     (λ (q : from ≡ n). absurd (true≢false (sym t ∙ ap p (sym q) ∙ e)))
-    (λ (o : from ≡ n → ⊥). rw e (run-lowest p n t count (suc from) (omega (arith, o)) (omega arith)))
+    (λ (o : from ≡ n → ⊥). rw e (run_lowest p n t count (suc from) (omega (arith, o)) (omega arith)))
     (ℕ_discrete from n))
 
 -- a run ascends
@@ -151,9 +151,9 @@ run_above p bound (suc count) from h =
     let rest = run_above p bound count (suc from) (omega arith) in
     by_bool (p from) (λ t. rw t (and_both (ltb bound from) _ (lt-ltb bound from h) rest)) (λ f. rw f rest)
 
-pub run-ascending : (p : ℕ → Bool) (count from : ℕ) → ascending (run p from count) ≡ true
+pub run_ascending : (p : ℕ → Bool) (count from : ℕ) → ascending (run p from count) ≡ true
 unfolding run
-run-ascending p zero from = refl
-run-ascending p (suc count) from =
-    let rest = run-ascending p count (suc from) in
+run_ascending p zero from = refl
+run_ascending p (suc count) from =
+    let rest = run_ascending p count (suc from) in
     by_bool (p from) (λ t. rw t (and_both (all (ltb from) (run p (suc from) count)) _ (run_above p from count (suc from) (omega arith)) rest)) (λ f. rw f rest)

@@ -16,15 +16,15 @@ use Rattle.terms.proofs.Laws.{case, and_left, and_right, and_both}
 use Rattle.terms.specs.Lists.{all}
 use Rattle.timer.specs.Timer.{rto_of}
 use Rattle.receiver_ack.specs.Missing.{ascending}
-use Rattle.receiver_ack.proofs.Among.{ascending-take}
+use Rattle.receiver_ack.proofs.Among.{ascending_take}
 use Rattle.sender_state.specs.Table.{is_waiting, is_flying, place_of}
 use Rattle.sender_state.specs.declared.Sender.{Sender}
 use Rattle.sender_state.specs.Numbers.{run, marked_with, in_flight}
 use Rattle.sender_resend.specs.Resend.{run_while, aged, expired_of, is_in}
 use Rattle.sender_meaning.specs.Meaning.{Standing, unmade, waits, flies, gone, mark_of, sent_of, standing, does_fly}
 use Rattle.sender_meaning.specs.Steps.{is_old, IsExpired}
-use Rattle.sender_meaning.proofs.Counts.{by_bool, run-within, run-ascending}
-use Rattle.sender_meaning.proofs.Stands.{flies-told}
+use Rattle.sender_meaning.proofs.Counts.{by_bool, run_within, run_ascending}
+use Rattle.sender_meaning.proofs.Stands.{flies_told}
 use Rattle.sender_meaning.proofs.Again.{all_while}
 
 -- a number is in the front of a run: it and every lower one of the run pass, and those are fewer than it may have
@@ -121,16 +121,16 @@ module _ (p a : ℕ → Bool) (n : ℕ) where
       (ℕ_discrete from n)
 
 -- what is old flies, and its age is by the time at which it was sent
-old-flies : (rto clock : ℕ) (x : Standing) → is_old rto clock x ≡ true → does_fly x ≡ true
-old-flies rto clock unmade t = absurd (true≢false (sym t))
-old-flies rto clock (waits packet) t = absurd (true≢false (sym t))
-old-flies rto clock (flies packet sent) t = refl
-old-flies rto clock gone t = absurd (true≢false (sym t))
+old_flies : (rto clock : ℕ) (x : Standing) → is_old rto clock x ≡ true → does_fly x ≡ true
+old_flies rto clock unmade t = absurd (true≢false (sym t))
+old_flies rto clock (waits packet) t = absurd (true≢false (sym t))
+old_flies rto clock (flies packet sent) t = refl
+old_flies rto clock gone t = absurd (true≢false (sym t))
 
 module _ (s : Sender) (store : List ℕ) where
-  old-told : (rto clock n : ℕ) → does_fly (standing s store n) ≡ true → is_old rto clock (standing s store n) ≡ ltb rto (clock - sent_of s n)
+  old_told : (rto clock n : ℕ) → does_fly (standing s store n) ≡ true → is_old rto clock (standing s store n) ≡ ltb rto (clock - sent_of s n)
   unfolding standing
-  old-told rto clock n t =
+  old_told rto clock n t =
       by_bool (leb s.next.0 n)
       (λ e. absurd (true≢false (sym (rw e at t))))
       (λ e.
@@ -144,8 +144,8 @@ module _ (s : Sender) (store : List ℕ) where
   -- the numbers in flight are those below next that fly
   in_flight_run : in_flight s ≡ run (λ n. does_fly (standing s store n)) 0 s.next.0
   in_flight_run =
-      run-within (λ n. marked_with 2 s.marks (place_of s.numbers n)) (λ n. does_fly (standing s store n)) s.next.0 0
-      (λ n a b. let h : n < s.next.0 = omega arith in rw (lt-ltb n s.next.0 h) at (flies-told s store n))
+      run_within (λ n. marked_with 2 s.marks (place_of s.numbers n)) (λ n. does_fly (standing s store n)) s.next.0 0
+      (λ n a b. let h : n < s.next.0 = omega arith in rw (lt-ltb n s.next.0 h) at (flies_told s store n))
 
   -- expired are the numbers whose standing, and that of every lower one, says so
   pub expired_is : (clock n : ℕ) → (is_in (expired_of s clock) n ≡ true) ↔ IsExpired s store clock n
@@ -156,20 +156,20 @@ module _ (s : Sender) (store : List ℕ) where
         λ t.
             let f = in_front_of p a n s.next.0 0 s.window (rw in_flight_run at t) in
             record {
-              old = old-told rto clock n f.passes ∙ f.old;
-              lower_old = λ m h e. old-told rto clock m e ∙ f.lower m (omega arith) h e;
+              old = old_told rto clock n f.passes ∙ f.old;
+              lower_old = λ m h e. old_told rto clock m e ∙ f.lower m (omega arith) h e;
               few = let few = rw (sub-zero n) at f.few in omega (arith, few);
             },
         λ e.
-            let flying = old-flies rto clock (standing s store n) e.old in
+            let flying = old_flies rto clock (standing s store n) e.old in
             rw in_flight_run
             (of_front p a n s.next.0 0 s.window
             (record {
               above = omega arith;
-              below = omega (arith, ltb-true n s.next.0 (and_left (ltb n s.next.0) _ (flies-told s store n ∙ flying)));
+              below = omega (arith, ltb-true n s.next.0 (and_left (ltb n s.next.0) _ (flies_told s store n ∙ flying)));
               passes = flying;
-              old = sym (old-told rto clock n flying) ∙ e.old;
-              lower = λ m x h g. sym (old-told rto clock m g) ∙ e.lower_old m h g;
+              old = sym (old_told rto clock n flying) ∙ e.old;
+              lower = λ m x h g. sym (old_told rto clock m g) ∙ e.lower_old m h g;
               few = rw (sub-zero n) (omega (arith, e.few));
             })),
       )
@@ -184,6 +184,6 @@ ascending_while p (x ∷ l) t =
 
 pub expired_ascending : (s : Sender) (clock : ℕ) → ascending (expired_of s clock) ≡ true
 expired_ascending s clock =
-    ascending-take s.window (run_while (aged s.numbers s.sent clock (rto_of s.timing)) (in_flight s))
+    ascending_take s.window (run_while (aged s.numbers s.sent clock (rto_of s.timing)) (in_flight s))
     (ascending_while (aged s.numbers s.sent clock (rto_of s.timing)) (in_flight s)
-    (run-ascending (λ n. marked_with 2 s.marks (place_of s.numbers n)) s.next.0 0))
+    (run_ascending (λ n. marked_with 2 s.marks (place_of s.numbers n)) s.next.0 0))

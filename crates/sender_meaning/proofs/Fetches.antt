@@ -25,27 +25,27 @@ use Rattle.sender_meaning.proofs.Counts.{fair_rung}
 use Rattle.sender_meaning.proofs.Stands.{flies_at, stands_at, place_long}
 
 module _ (s : Sender) (rank : ℕ) (store output : List ℕ) where
-  fetch-is : fetch_said s rank (length store) (length output) ≡ (fetch_of s rank store output).says
+  fetch_is : fetch_said s rank (length store) (length output) ≡ (fetch_of s rank store output).says
   unfolding fetch_of
-  fetch-is = refl
+  fetch_is = refl
 
   -- a refusal changes nothing
-  pub fetch-nothing : (n : ℕ) → (fetch_of s rank store output).says ≡ refusal n → (fetch_of s rank store output).output ≡ output
+  pub fetch_nothing : (n : ℕ) → (fetch_of s rank store output).says ≡ refusal n → (fetch_of s rank store output).output ≡ output
   unfolding fetch_of
-  fetch-nothing n e = rw (fetch-is ∙ e)
+  fetch_nothing n e = rw (fetch_is ∙ e)
 
   module _ (sound : Sound s store) where
     module _ (inside : rank < length (in_flight s)) where
-      there : Ranked s sound.numbers-long sound.marks-long (omega (arith, sound.width)) 2 rank (in_flight s ! rank)
-      there = ranked_of s sound.numbers-long sound.marks-long (omega (arith, sound.width)) 2 rank (omega arith) inside
+      there : Ranked s sound.numbers_long sound.marks_long (omega (arith, sound.width)) 2 rank (in_flight s ! rank)
+      there = ranked_of s sound.numbers_long sound.marks_long (omega (arith, sound.width)) 2 rank (omega arith) inside
 
-      packet-long : length (stored_packet s store (in_flight s ! rank)) ≡ size_of s (in_flight s ! rank)
-      packet-long = place_long s store sound (place_of s.numbers (in_flight s ! rank)) there.place (λ z. omega (arith, there.marked))
+      packet_long : length (stored_packet s store (in_flight s ! rank)) ≡ size_of s (in_flight s ! rank)
+      packet_long = place_long s store sound (place_of s.numbers (in_flight s ! rank)) there.place (λ z. omega (arith, there.marked))
 
-    pub fetch-gives : (given : List ℕ) → (fetch_of s rank store output).says ≡ values given → Fetched s rank store output given
+    pub fetch_gives : (given : List ℕ) → (fetch_of s rank store output).says ≡ values given → Fetched s rank store output given
     unfolding fetch_of fetch_said
-    fetch-gives given done =
-        let p11 = past 11 (not (rules s)) _ given (fetch-is ∙ done) in
+    fetch_gives given done =
+        let p11 = past 11 (not (rules s)) _ given (fetch_is ∙ done) in
         let p10 = past 10 (not (sizes_fit s.chunk s.count (length store))) _ given p11.1 in
         let p17 = past 17 (leb (length (in_flight s)) rank) _ given p10.1 in
         let p7 = past 7 (ltb (length output) (size_of s (in_flight s ! rank))) _ given p17.1 in
@@ -57,26 +57,26 @@ module _ (s : Sender) (rank : ℕ) (store output : List ℕ) where
           sent = s.sent ! place;
           inside = inside;
           is = ap (standing s store) (sym (there inside).has) ∙ stands_at s store sound place (there inside).place full ∙ flies_at s store place (there inside).marked;
-          gives = let i = p7.1 in rw (packet-long inside) (cc);
-          output-is = rw done;
+          gives = let i = p7.1 in rw (packet_long inside) (cc);
+          output_is = rw done;
         }
 
     -- its answer in a sound state
-    pub fetch-answer : (fetch_of s rank store output).says
+    pub fetch_answer : (fetch_of s rank store output).says
         ≡ (refusal 17 when leb (length (in_flight s)) rank else
         refusal 7 when ltb (length output) (length (stored_packet s store (in_flight s ! rank))) else
         values (length (stored_packet s store (in_flight s ! rank)) ∷ []))
     unfolding fetch_said
-    fetch-answer =
-        sym fetch-is ∙ rw (sound.keeps, sound.fits)
+    fetch_answer =
+        sym fetch_is ∙ rw (sound.keeps, sound.fits)
         (case
         (λ (q : length (in_flight s) ≤ rank). rw (le-leb (length (in_flight s)) rank q))
-        (λ (q : length (in_flight s) ≤ rank → ⊥). rw (packet-long (omega arith)))
+        (λ (q : length (in_flight s) ≤ rank → ⊥). rw (packet_long (omega arith)))
         (dec_le (length (in_flight s)) rank))
 
     -- none blames the rules or the sizes
     pub fetch_fair : is_fair (fetch_of s rank store output).says ≡ true
     fetch_fair =
-        rw fetch-answer
+        rw fetch_answer
         (fair_rung 17 (leb (length (in_flight s)) rank) _ refl
         (fair_rung 7 (ltb (length output) (length (stored_packet s store (in_flight s ! rank)))) _ refl refl))

@@ -23,27 +23,27 @@ use Rattle.sender_meaning.proofs.Counts.{count_set}
 use Rattle.sender_meaning.proofs.Stands.{waits_at, flies_at, at_same, unmade_from, facts, one_place, where_is, nowhere_gone, stands_at}
 
 -- a timer that was in time still is, and so is one that is armed now
-pub later-fits : (timer : Timer) (last clock : ℕ) → timer_fits timer last ≡ true → last ≤ clock → timer_fits timer clock ≡ true
+pub later_fits : (timer : Timer) (last clock : ℕ) → timer_fits timer last ≡ true → last ≤ clock → timer_fits timer clock ≡ true
 unfolding timer_fits
-later-fits T.Unarmed last clock f a = refl
-later-fits (T.At due) last clock f a = let d = leb-true due (last + 60000) f in le-leb due (clock + 60000) (omega arith)
+later_fits T.Unarmed last clock f a = refl
+later_fits (T.At due) last clock f a = let d = leb-true due (last + 60000) f in le-leb due (clock + 60000) (omega arith)
 
-pub armed-fits : (timer : Timer) (last clock rto : ℕ) → timer_fits timer last ≡ true → last ≤ clock → rto ≤ 60000 → timer_fits (armed timer (clock + rto)) clock ≡ true
+pub armed_fits : (timer : Timer) (last clock rto : ℕ) → timer_fits timer last ≡ true → last ≤ clock → rto ≤ 60000 → timer_fits (armed timer (clock + rto)) clock ≡ true
 unfolding timer_fits armed
-armed-fits T.Unarmed last clock rto f a b = le-leb (clock + rto) (clock + 60000) (omega arith)
-armed-fits (T.At due) last clock rto f a b = later-fits (T.At due) last clock f a
+armed_fits T.Unarmed last clock rto f a b = le-leb (clock + rto) (clock + 60000) (omega arith)
+armed_fits (T.At due) last clock rto f a b = later_fits (T.At due) last clock f a
 
 -- a packet of a place that waits moves in flight
 module _ (s : Sender) (store : List ℕ) (sound : Sound s store) (place : ℕ) (inside : place < 192) (Waits-there : s.marks ! place ≡ 1)
     (lowest : (j : ℕ) → j < 192 → s.marks ! j ≡ 1 → s.numbers ! place ≤ s.numbers ! j) (clock : ℕ) (later : s.clock ≤ clock) where
   mark_here : set s.marks place 2 ! place ≡ 2
-  mark_here = get_or-set_same s.marks place 2 0 (omega (arith, sound.marks-long))
+  mark_here = get_or-set_same s.marks place 2 0 (omega (arith, sound.marks_long))
 
   mark_there : (i : ℕ) → (i ≡ place → ⊥) → set s.marks place 2 ! i ≡ s.marks ! i
   mark_there i o = get_or-set_other s.marks place i 2 0 o
 
   sent_here : set s.sent place clock ! place ≡ clock
-  sent_here = get_or-set_same s.sent place clock 0 (omega (arith, sound.sent-long))
+  sent_here = get_or-set_same s.sent place clock 0 (omega (arith, sound.sent_long))
 
   sent_there : (i : ℕ) → (i ≡ place → ⊥) → set s.sent place clock ! i ≡ s.sent ! i
   sent_there i o = get_or-set_other s.sent place i clock 0 o
@@ -56,8 +56,8 @@ module _ (s : Sender) (store : List ℕ) (sound : Sound s store) (place : ℕ) (
       (λ (o : i ≡ place → ⊥). sym (mark_there i o) ∙ z)
       (ℕ_discrete i place)
 
-  was-full : (i : ℕ) → (set s.marks place 2 ! i ≡ 0 → ⊥) → s.marks ! i ≡ 0 → ⊥
-  was-full i n z =
+  was_full : (i : ℕ) → (set s.marks place 2 ! i ≡ 0 → ⊥) → s.marks ! i ≡ 0 → ⊥
+  was_full i n z =
       case
       (λ (e : i ≡ place). omega (arith, Waits-there, rw e at z))
       (λ (o : i ≡ place → ⊥). n (mark_there i o ∙ z))
@@ -73,10 +73,10 @@ module _ (s : Sender) (store : List ℕ) (sound : Sound s store) (place : ℕ) (
   moved_keeps room most timer due =
       let r = facts s store sound in
       let l : length (set s.marks place 2) ≡ length s.marks = length-set s.marks place 2 in
-      let long = sound.marks-long in
+      let long = sound.marks_long in
       record {
-        distinct = λ i j h k o a b. r.distinct i j (omega arith) (omega arith) o (was-full i a) (was-full j b);
-        low = λ i h n. r.low i (omega arith) (was-full i n);
+        distinct = λ i j h k o a b. r.distinct i j (omega arith) (omega arith) o (was_full i a) (was_full j b);
+        low = λ i h n. r.low i (omega arith) (was_full i n);
         order = λ i j h k f w.
             let v = still_waits j w in
             case
@@ -86,8 +86,8 @@ module _ (s : Sender) (store : List ℕ) (sound : Sound s store) (place : ℕ) (
             rw e (omega (arith, apart)))
             (λ (o : i ≡ place → ⊥). r.order i j (omega arith) (omega arith) (sym (mark_there i o) ∙ f) v.1)
             (ℕ_discrete i place);
-        some = λ i h n. r.some i (omega arith) (was-full i n);
-        next-some = r.next-some;
+        some = λ i h n. r.some i (omega arith) (was_full i n);
+        next_some = r.next_some;
         shut = λ i h a.
             case
             (λ (e : i ≡ place). absurd (omega (arith, r.shut place (omega arith) (omega arith))))
@@ -101,7 +101,7 @@ module _ (s : Sender) (store : List ℕ) (sound : Sound s store) (place : ℕ) (
             (λ (o : i ≡ place → ⊥). sent_there i o ∙ r.no_time i (omega arith) (was_free i z))
             (ℕ_discrete i place);
         no_resent = λ i h z. r.no_resent i (omega arith) (was_free i z);
-        not-sent = λ i h w. let v = still_waits i w in sent_there i v.0 ∙ r.not-sent i (omega arith) v.1;
+        not_sent = λ i h w. let v = still_waits i w in sent_there i v.0 ∙ r.not_sent i (omega arith) v.1;
         unresent = λ i h w. r.unresent i (omega arith) (still_waits i w).1;
         once_or_more = λ i h. r.once_or_more i (omega arith);
         few = omega (arith, count_set 2 s.marks place (omega arith) (λ e. omega arith), r.window_most);
@@ -111,11 +111,11 @@ module _ (s : Sender) (store : List ℕ) (sound : Sound s store) (place : ℕ) (
             (λ (o : i ≡ place → ⊥). rw (sent_there i o) (omega (arith, r.past i (omega arith))))
             (ℕ_discrete i place);
         due = due;
-        window-some = r.window-some;
+        window_some = r.window_some;
         window_most = r.window_most;
         timing = r.timing;
-        long = λ i h n. r.long i (omega arith) (was-full i n);
-        short = λ i h n. r.short i (omega arith) (was-full i n);
+        long = λ i h n. r.long i (omega arith) (was_full i n);
+        short = λ i h n. r.short i (omega arith) (was_full i n);
         clock_most = most;
         known = λ i h.
             case
@@ -124,13 +124,13 @@ module _ (s : Sender) (store : List ℕ) (sound : Sound s store) (place : ℕ) (
             (ℕ_discrete i place);
       }
 
-  pub moved-sound : count_of 2 s.marks < s.window → clock ≤ 1000000000000000 → (timer : Timer) → timer_fits timer clock ≡ true → Sound (moved s place clock timer) store
-  moved-sound room most timer due = record {
-    numbers-long = sound.numbers-long;
-    lengths-long = sound.lengths-long;
-    sent-long = simp length-set sound.sent-long;
-    resent-long = sound.resent-long;
-    marks-long = simp length-set sound.marks-long;
+  pub moved_sound : count_of 2 s.marks < s.window → clock ≤ 1000000000000000 → (timer : Timer) → timer_fits timer clock ≡ true → Sound (moved s place clock timer) store
+  moved_sound room most timer due = record {
+    numbers_long = sound.numbers_long;
+    lengths_long = sound.lengths_long;
+    sent_long = simp length-set sound.sent_long;
+    resent_long = sound.resent_long;
+    marks_long = simp length-set sound.marks_long;
     keeps = rules_of_lem (moved s place clock timer) (moved_keeps room most timer due);
     fits = sound.fits;
     width = sound.width;
@@ -143,14 +143,14 @@ module _ (s : Sender) (store : List ℕ) (sound : Sound s store) (place : ℕ) (
   other_stays n o gone = refl
 
   -- its number flies, and every other stands as it stood
-  pub moved-means : (timer : Timer) → Sound (moved s place clock timer) store → (n : ℕ)
+  pub moved_means : (timer : Timer) → Sound (moved s place clock timer) store → (n : ℕ)
       → standing (moved s place clock timer) store n ≡ sent_as (s.numbers ! place) clock n (standing s store n)
-  moved-means timer after n =
+  moved_means timer after n =
       let t = moved s place clock timer in
       where_is s store sound n
       (λ a. unmade_from t store n a ∙ sym (ap (sent_as (s.numbers ! place) clock n) (unmade_from s store n a)))
       (λ a f.
-      nowhere_gone t store after n a (λ i h o e. f i h (was-full i o) e)
+      nowhere_gone t store after n a (λ i h o e. f i h (was_full i o) e)
       ∙ sym (ap (sent_as (s.numbers ! place) clock n) (nowhere_gone s store sound n a f)))
       (λ i h o e.
       case

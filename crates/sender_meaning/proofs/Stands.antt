@@ -39,11 +39,11 @@ module _ (s : Sender) (store : List ℕ) (i : ℕ) where
 
 -- what a mark says of the standing
 module _ (packet : List ℕ) (sent mark : ℕ) where
-  pub told-waits : is_waiting mark ≡ does_wait (waits packet when is_waiting mark else flies packet sent when is_flying mark else gone)
-  told-waits = by_bool (is_waiting mark) (λ t. rw t) (λ f. rw f (by_bool (is_flying mark) (λ t. rw t) (λ g. rw g)))
+  pub told_waits : is_waiting mark ≡ does_wait (waits packet when is_waiting mark else flies packet sent when is_flying mark else gone)
+  told_waits = by_bool (is_waiting mark) (λ t. rw t) (λ f. rw f (by_bool (is_flying mark) (λ t. rw t) (λ g. rw g)))
 
-  pub told-flies : is_flying mark ≡ does_fly (waits packet when is_waiting mark else flies packet sent when is_flying mark else gone)
-  told-flies =
+  pub told_flies : is_flying mark ≡ does_fly (waits packet when is_waiting mark else flies packet sent when is_flying mark else gone)
+  told_flies =
       case
       (λ (e : mark ≡ 1). rw e)
       (λ (o : mark ≡ 1 → ⊥). rw (ne_eqb mark 1 o) (by_bool (is_flying mark) (λ t. rw t) (λ g. rw g)))
@@ -78,7 +78,7 @@ module _ (s : Sender) (store : List ℕ) (sound : Sound s store) where
   own_place i h o =
       let some : 1 ≤ s.marks ! i = omega (arith, o) in
       stored s.numbers s.marks (s.marks ! i) s.next.0
-      (tidy s sound.numbers-long sound.marks-long (omega (arith, sound.width)) facts (s.marks ! i) some) i h refl
+      (tidy s sound.numbers_long sound.marks_long (omega (arith, sound.width)) facts (s.marks ! i) some) i h refl
 
   pub one_place : (i j : ℕ) → i < 192 → j < 192 → (s.marks ! i ≡ 0 → ⊥) → (s.marks ! j ≡ 0 → ⊥) → s.numbers ! i ≡ s.numbers ! j → i ≡ j
   one_place i j h k o u e = sym (own_place i h o) ∙ ap (place_of s.numbers) e ∙ own_place j k u
@@ -88,11 +88,11 @@ module _ (s : Sender) (store : List ℕ) (sound : Sound s store) where
   marked_in n o =
       case
       (λ (q : place_of s.numbers n < 192). q)
-      (λ (q : place_of s.numbers n < 192 → ⊥). absurd (o (beyond s.marks (place_of s.numbers n) 0 (omega (arith, sound.marks-long)))))
+      (λ (q : place_of s.numbers n < 192 → ⊥). absurd (o (beyond s.marks (place_of s.numbers n) 0 (omega (arith, sound.marks_long)))))
       (dec_lt (place_of s.numbers n) 192)
 
   pub marked_is : (n : ℕ) → (mark_of s n ≡ 0 → ⊥) → s.numbers ! place_of s.numbers n ≡ n
-  marked_is n o = place_is s.numbers n (omega (arith, sound.numbers-long, marked_in n o))
+  marked_is n o = place_is s.numbers n (omega (arith, sound.numbers_long, marked_in n o))
 
   -- a number lies from next on, stands nowhere, or stands at a place
   pub where_is : {C : Type 0} (n : ℕ) → (s.next.0 ≤ n → C) → (n < s.next.0 → Nowhere s n → C)
@@ -117,53 +117,53 @@ module _ (s : Sender) (store : List ℕ) (sound : Sound s store) where
 
   pub stands_at : (i : ℕ) → i < 192 → (s.marks ! i ≡ 0 → ⊥) → standing s store (s.numbers ! i) ≡ standing_at s store i
   unfolding standing standing_at
-  stands_at i h o = rw (lt-leb _ _ (facts.low i (omega (arith, sound.marks-long)) o), own_place i h o)
+  stands_at i h o = rw (lt-leb _ _ (facts.low i (omega (arith, sound.marks_long)) o), own_place i h o)
 
-  pub flies-mark : (i : ℕ) → i < 192 → (s.marks ! i ≡ 0 → ⊥) → does_fly (standing s store (s.numbers ! i)) ≡ is_flying (s.marks ! i)
+  pub flies_mark : (i : ℕ) → i < 192 → (s.marks ! i ≡ 0 → ⊥) → does_fly (standing s store (s.numbers ! i)) ≡ is_flying (s.marks ! i)
   unfolding standing_at
-  flies-mark i h o = ap does_fly (stands_at i h o) ∙ sym (told-flies (bytes_at s.chunk i (s.lengths ! i) store) (s.sent ! i) (s.marks ! i))
+  flies_mark i h o = ap does_fly (stands_at i h o) ∙ sym (told_flies (bytes_at s.chunk i (s.lengths ! i) store) (s.sent ! i) (s.marks ! i))
 
   -- a packet is as long as its place says
   pub place_long : (i : ℕ) → i < 192 → (s.marks ! i ≡ 0 → ⊥) → length (bytes_at s.chunk i (s.lengths ! i) store) ≡ s.lengths ! i
   place_long i h o =
-      let inside = packet_in_lem s sound.marks-long facts (length store) i sound.fits h o in
+      let inside = packet_in_lem s sound.marks_long facts (length store) i sound.fits h o in
       simp (length-take, length-drop) (omega arith)
 
   -- as many numbers wait, and are in flight, as places are marked so
   marked : (wanted : ℕ) → 1 ≤ wanted → length (run (λ n. marked_with wanted s.marks (place_of s.numbers n)) 0 s.next.0) ≡ count_of wanted s.marks
   marked wanted some =
-      let t = tidy s sound.numbers-long sound.marks-long (omega (arith, sound.width)) facts wanted some in
-      let long = sound.marks-long in
-      marked_count wanted s.next.0 some s.numbers s.marks (sound.numbers-long ∙ sym long)
+      let t = tidy s sound.numbers_long sound.marks_long (omega (arith, sound.width)) facts wanted some in
+      let long = sound.marks_long in
+      marked_count wanted s.next.0 some s.numbers s.marks (sound.numbers_long ∙ sym long)
       (λ i h e. t.low i (omega arith) e)
       (λ i j h k o e f. omega (arith, t.alone i j (omega arith) (omega arith) o f, t.some i (omega arith) e))
 
-  pub waiting-count : length (waiting s) ≡ count_of 1 s.marks
-  waiting-count = marked 1 (omega arith)
+  pub waiting_count : length (waiting s) ≡ count_of 1 s.marks
+  waiting_count = marked 1 (omega arith)
 
   pub in_flight_count : length (in_flight s) ≡ count_of 2 s.marks
   in_flight_count = marked 2 (omega arith)
 
 -- the numbers that wait, and those in flight, are those whose standing says so
 module _ (s : Sender) (store : List ℕ) (n : ℕ) where
-  pub waits-told : (ltb n s.next.0 && is_waiting (mark_of s n)) ≡ does_wait (standing s store n)
+  pub waits_told : (ltb n s.next.0 && is_waiting (mark_of s n)) ≡ does_wait (standing s store n)
   unfolding standing
-  waits-told =
+  waits_told =
       case
-      (λ (a : n < s.next.0). rw (lt-ltb _ _ a, lt-leb _ _ a) (told-waits (stored_packet s store n) (sent_of s n) (mark_of s n)))
+      (λ (a : n < s.next.0). rw (lt-ltb _ _ a, lt-leb _ _ a) (told_waits (stored_packet s store n) (sent_of s n) (mark_of s n)))
       (λ (a : n < s.next.0 → ⊥). rw (le-ltb n s.next.0 (omega arith), le-leb s.next.0 n (omega arith)))
       (dec_lt n s.next.0)
 
-  pub flies-told : (ltb n s.next.0 && is_flying (mark_of s n)) ≡ does_fly (standing s store n)
+  pub flies_told : (ltb n s.next.0 && is_flying (mark_of s n)) ≡ does_fly (standing s store n)
   unfolding standing
-  flies-told =
+  flies_told =
       case
-      (λ (a : n < s.next.0). rw (lt-ltb _ _ a, lt-leb _ _ a) (told-flies (stored_packet s store n) (sent_of s n) (mark_of s n)))
+      (λ (a : n < s.next.0). rw (lt-ltb _ _ a, lt-leb _ _ a) (told_flies (stored_packet s store n) (sent_of s n) (mark_of s n)))
       (λ (a : n < s.next.0 → ⊥). rw (le-ltb n s.next.0 (omega arith), le-leb s.next.0 n (omega arith)))
       (dec_lt n s.next.0)
 
-  pub waiting-is : is_in (waiting s) n ≡ does_wait (standing s store n)
-  waiting-is = run_has (λ m. marked_with 1 s.marks (place_of s.numbers m)) s.next.0 n ∙ waits-told
+  pub waiting_is : is_in (waiting s) n ≡ does_wait (standing s store n)
+  waiting_is = run_has (λ m. marked_with 1 s.marks (place_of s.numbers m)) s.next.0 n ∙ waits_told
 
   pub in_flight_is : is_in (in_flight s) n ≡ does_fly (standing s store n)
-  in_flight_is = run_has (λ m. marked_with 2 s.marks (place_of s.numbers m)) s.next.0 n ∙ flies-told
+  in_flight_is = run_has (λ m. marked_with 2 s.marks (place_of s.numbers m)) s.next.0 n ∙ flies_told

@@ -17,8 +17,8 @@ use Rattle.receiver_state.specs.Rules.{rules_of, slot_fits}
 use Rattle.receiver_state.specs.declared.Receiver.{Receiver}
 use Rattle.receiver_calls.proofs.Laws.{by_said}
 use Rattle.receiver_ack.specs.Missing.{missing_from}
-use Rattle.receiver_ack.specs.Fields.{at_least255, ack_through, fields_from, nacks_from}
-use Rattle.receiver_ack.proofs.Ways.{nacks_few, packet-long, packet_most}
+use Rattle.receiver_ack.specs.Fields.{at_least255, acked_through, fields_from, nacks_from}
+use Rattle.receiver_ack.proofs.Ways.{nacks_few, packet_long, packet_most}
 use Rattle.sender_state.specs.Table.{count_of}
 use Rattle.sender_state.specs.declared.Sender.{Sender}
 use Rattle.sender_state.specs.Numbers.{waiting}
@@ -32,19 +32,19 @@ use Rattle.sender_meaning.specs.Meaning.{standing, Sound}
 use Rattle.sender_meaning.specs.Steps.{is_fair, chunk_at, chunks_from, submitted_as, is_outside}
 use Rattle.sender_meaning.specs.Changes.{Stores}
 use Rattle.sender_meaning.proofs.Counts.{fair_rung}
-use Rattle.sender_meaning.proofs.Stands.{waiting-count}
-use Rattle.sender_meaning.proofs.SubmittingChunks.{chunks_are_bytes, chunk-some, chunk_most}
+use Rattle.sender_meaning.proofs.Stands.{waiting_count}
+use Rattle.sender_meaning.proofs.SubmittingChunks.{chunks_are_bytes, chunk_some, chunk_most}
 use Rattle.sender_meaning.proofs.SubmittingStored.{FitsPlaces, stores}
 
 -- a packet with the ack fields of any receiver fits a place
-pub packet-fits : (r : Receiver) (send recv : StreamId) (chunk : ℕ) → FitsPlaces (data_packet r send recv) chunk
+pub packet_fits : (r : Receiver) (send recv : StreamId) (chunk : ℕ) → FitsPlaces (data_packet r send recv) chunk
 unfolding fields_from
-packet-fits r send recv chunk =
+packet_fits r send recv chunk =
     let m = missing_from r.head.next.0 r.head.highest.0 r.marks in
     let nacks = nacks_from r.head.next.0 r.head.highest.0 r.marks in
-    let through = ack_through m r.head.highest.0 in
+    let through = acked_through m r.head.highest.0 in
     record {
-      long = λ n payload. omega (arith, packet-long through send recv n nacks payload (at_least255 m));
+      long = λ n payload. omega (arith, packet_long through send recv n nacks payload (at_least255 m));
       short = λ n payload h. omega (arith, packet_most through send recv n nacks payload (at_least255 m) (nacks_few r.head.next.0 r.head.highest.0 r.marks));
     }
 
@@ -54,10 +54,10 @@ module _ (s : Sender) (r : Receiver) (send recv : StreamId) (bytes store : List 
   says_is = refl
 
   -- A refused submit leaves the state and the store.
-  pub submit-refused : (n : ℕ) → (submit_of s r send recv bytes store).says ≡ refusal n
+  pub submit_refused : (n : ℕ) → (submit_of s r send recv bytes store).says ≡ refusal n
       → ((submit_of s r send recv bytes store).state ≡ s) × ((submit_of s r send recv bytes store).lent ≡ store)
   unfolding submit_of
-  submit-refused n e = (rw e, rw e)
+  submit_refused n e = (rw e, rw e)
 
   -- What holds where packets are made.
   pub submit_done : (given : List ℕ) → (submit_of s r send recv bytes store).says ≡ values given → Made s r (length bytes) (length store) given
@@ -67,26 +67,26 @@ module _ (s : Sender) (r : Receiver) (send recv : StreamId) (bytes store : List 
     asked : Made s r (length bytes) (length store) (count ∷ [])
     asked = submit_done (count ∷ []) done
 
-    count-is : count ≡ chunks_of s.chunk (length bytes)
-    count-is = let e = asked.gives in cc
+    count_is : count ≡ chunks_of s.chunk (length bytes)
+    count_is = let e = asked.gives in cc
 
     stored_is : ((submit_of s r send recv bytes store).state ≡ (stored_by (data_packet r send recv) count bytes s store).state)
         × ((submit_of s r send recv bytes store).lent ≡ (stored_by (data_packet r send recv) count bytes s store).store)
     unfolding submit_of
-    stored_is = (rw (done, count-is), rw (done, count-is))
+    stored_is = (rw (done, count_is), rw (done, count_is))
 
     -- How many: as many as the bytes make chunks, and at least one.
-    pub submit-count : (count ≡ chunks_of s.chunk (length bytes)) × (1 ≤ count)
-    submit-count =
+    pub submit_count : (count ≡ chunks_of s.chunk (length bytes)) × (1 ≤ count)
+    submit_count =
         let d = asked in
-        (count-is, omega (arith, count-is, chunks_some s.chunk (length bytes) d.chunk-some d.size-some))
+        (count_is, omega (arith, count_is, chunks_some s.chunk (length bytes) d.chunk_some d.size_some))
 
     -- The chunks, of which a number's packet has its own: joined they are the bytes, none is empty, none longer than C.
     pub submit_chunks : joined (chunks_from s.chunk 0 count bytes) ≡ bytes
-    submit_chunks = rw count-is (chunks_are_bytes s.chunk asked.chunk-some bytes)
+    submit_chunks = rw count_is (chunks_are_bytes s.chunk asked.chunk_some bytes)
 
-    pub submit-chunk-some : (k : ℕ) → k < count → 1 ≤ length (chunk_at s.chunk k bytes)
-    submit-chunk-some k h = chunk-some s.chunk asked.chunk-some bytes k (omega (arith, count-is))
+    pub submit_chunk_some : (k : ℕ) → k < count → 1 ≤ length (chunk_at s.chunk k bytes)
+    submit_chunk_some k h = chunk_some s.chunk asked.chunk_some bytes k (omega (arith, count_is))
 
     pub submit_chunk_most : (k : ℕ) → length (chunk_at s.chunk k bytes) ≤ s.chunk
     submit_chunk_most k = chunk_most s.chunk k bytes
@@ -97,18 +97,18 @@ module _ (s : Sender) (r : Receiver) (send recv : StreamId) (bytes store : List 
           (record { state = (submit_of s r send recv bytes store).state; store = (submit_of s r send recv bytes store).lent })
       submit_stores =
           rw (stored_is.0, stored_is.1)
-          (stores (data_packet r send recv) count bytes s store sound (rw count-is asked.roomy) (packet-fits r send recv s.chunk))
+          (stores (data_packet r send recv) count bytes s store sound (rw count_is asked.roomy) (packet_fits r send recv s.chunk))
 
-      pub submit-keeps : Sound (submit_of s r send recv bytes store).state (submit_of s r send recv bytes store).lent
-      submit-keeps = submit_stores.sound
+      pub submit_keeps : Sound (submit_of s r send recv bytes store).state (submit_of s r send recv bytes store).lent
+      submit_keeps = submit_stores.sound
 
       -- Next goes on by so many.
-      pub submit-next : (submit_of s r send recv bytes store).state.next.0 ≡ s.next.0 + count
-      submit-next = submit_stores.next-is
+      pub submit_next : (submit_of s r send recv bytes store).state.next.0 ≡ s.next.0 + count
+      submit_next = submit_stores.next_is
 
-      pub submit-means : (n : ℕ) → standing (submit_of s r send recv bytes store).state (submit_of s r send recv bytes store).lent n
+      pub submit_means : (n : ℕ) → standing (submit_of s r send recv bytes store).state (submit_of s r send recv bytes store).lent n
           ≡ submitted_as (data_packet r send recv) s.chunk s.next.0 count bytes n (standing s store n)
-      submit-means = submit_stores.means
+      submit_means = submit_stores.means
 
       -- A byte of the store that is none of the new packets' is as it was.
       pub submit_only_its_bytes : (k : ℕ) → ((n : ℕ) → s.next.0 ≤ n → n < s.next.0 + count → is_outside (submit_of s r send recv bytes store).state n k ≡ true)
@@ -116,14 +116,14 @@ module _ (s : Sender) (r : Receiver) (send recv : StreamId) (bytes store : List 
       submit_only_its_bytes = submit_stores.byte_is
 
   -- Submit keeps a state and a store that belong together, whatever it is given.
-  pub submit-sound : Sound s store → Sound (submit_of s r send recv bytes store).state (submit_of s r send recv bytes store).lent
-  submit-sound sound =
+  pub submit_sound : Sound s store → Sound (submit_of s r send recv bytes store).state (submit_of s r send recv bytes store).lent
+  submit_sound sound =
       by_said (submit_of s r send recv bytes store).says
-      (λ n e. rw ((submit-refused n e).0, (submit-refused n e).1) sound)
-      (λ given e. submit-keeps (chunks_of s.chunk (length bytes)) (e ∙ ap values (submit_done given e).gives) sound)
+      (λ n e. rw ((submit_refused n e).0, (submit_refused n e).1) sound)
+      (λ given e. submit_keeps (chunks_of s.chunk (length bytes)) (e ∙ ap values (submit_done given e).gives) sound)
 
   -- Its answer in such a state: the receiver alone may be at fault, and past that 21 is given exactly if a number waits.
-  pub submit-answer : Sound s store → (submit_of s r send recv bytes store).says
+  pub submit_answer : Sound s store → (submit_of s r send recv bytes store).says
       ≡ (refusal 11 when not (rules_of r) else
       refusal 10 when not (slot_fits r.head.slot) else
       refusal 21 when not (is_empty (waiting s)) else
@@ -132,8 +132,8 @@ module _ (s : Sender) (r : Receiver) (send recv : StreamId) (bytes store : List 
       refusal 18 when ltb (free_of s) (chunks_of s.chunk (length bytes)) else
       values (chunks_of s.chunk (length bytes) ∷ []))
   unfolding submit_said
-  submit-answer sound =
-      let some : ltb 0 (count_of 1 s.marks) ≡ not (is_empty (waiting s)) = rw (waiting-count s store sound) (some_or_none (count_of 1 s.marks)) in
+  submit_answer sound =
+      let some : ltb 0 (count_of 1 s.marks) ≡ not (is_empty (waiting s)) = rw (waiting_count s store sound) (some_or_none (count_of 1 s.marks)) in
       says_is ∙ rw (sound.keeps, sound.fits, some)
     where
       some_or_none : (k : ℕ) → ltb 0 k ≡ not (leb k 0)
@@ -147,7 +147,7 @@ module _ (s : Sender) (r : Receiver) (send recv : StreamId) (bytes store : List 
   pub submit_fair : Sound s store → rules_of r ≡ true → slot_fits r.head.slot ≡ true → is_fair (submit_of s r send recv bytes store).says ≡ true
   submit_fair sound keeps fits =
       let n = chunks_of s.chunk (length bytes) in
-      rw (submit-answer sound, keeps, fits)
+      rw (submit_answer sound, keeps, fits)
       (fair_rung 21 (not (is_empty (waiting s))) _ refl
       (fair_rung 19 (eqb (length bytes) 0 || ltb 65535 (length bytes)) _ refl
       (fair_rung 20 (leb 4294967295 (s.next.0 + (n - 1))) _ refl

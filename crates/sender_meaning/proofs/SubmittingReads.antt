@@ -21,7 +21,7 @@ use Rattle.sender_submit.specs.Submit.{submit_of}
 use Rattle.sender_meaning.specs.Meaning.{waits, standing, Sound}
 use Rattle.sender_meaning.specs.Steps.{chunk_at}
 use Rattle.sender_meaning.specs.Changes.{ReadsAsData}
-use Rattle.sender_meaning.proofs.Submitting.{submit_done, submit-count, submit-means, submit_chunk_most}
+use Rattle.sender_meaning.proofs.Submitting.{submit_done, submit_count, submit_means, submit_chunk_most}
 
 module _ (r : Receiver) (send recv : StreamId) where
   no_ack_clear : bit 10 (ack_fields_of r).flags ≡ false
@@ -37,18 +37,18 @@ module _ (r : Receiver) (send recv : StreamId) where
       let is = c.fields_read_back in
       record {
         readable = rw is;
-        send-read = rw is;
+        send_read = rw is;
         recv_read = rw is;
         number_read = rw is;
         through_read = through_read r send recv p c;
-        count-read = c.count-read;
+        count_read = c.count_read;
         nacks_read = c.nacks_read;
-        flags-read = rw is;
-        acks-count = rw is no_ack_clear;
+        flags_read = rw is;
+        acks_count = rw is no_ack_clear;
         payload_read = c.payload_read;
-        resend-delay-read = rw is;
-        delay-read = rw is;
-        max-size-read = rw is;
+        resend_delay_read = rw is;
+        delay_read = rw is;
+        max_size_read = rw is;
         no_destination_there = c.no_destination_there;
         no_signature = c.no_signature;
         no_leftover = rw is;
@@ -57,15 +57,15 @@ module _ (r : Receiver) (send recv : StreamId) where
 -- Each number that submit gives waits as a packet that reads as its number and its chunk.
 module _ (s : Sender) (r : Receiver) (send recv : StreamId) (bytes store : List ℕ) (count : ℕ) (done : (submit_of s r send recv bytes store).says ≡ values (count ∷ []))
     (sound : Sound s store) (n : ℕ) (low : s.next.0 ≤ n) (high : n < s.next.0 + count) where
-  pub submit-waits : standing (submit_of s r send recv bytes store).state (submit_of s r send recv bytes store).lent n
+  pub submit_waits : standing (submit_of s r send recv bytes store).state (submit_of s r send recv bytes store).lent n
       ≡ waits (data_packet r send recv n (chunk_at s.chunk (n - s.next.0) bytes))
-  submit-waits = submit-means s r send recv bytes store count done sound n ∙ rw (le-leb s.next.0 n low, lt-ltb n (s.next.0 + count) high)
+  submit_waits = submit_means s r send recv bytes store count done sound n ∙ rw (le-leb s.next.0 n low, lt-ltb n (s.next.0 + count) high)
 
-  pub submit-reads : send.0 < 2 ^ 32 → recv.0 < 2 ^ 32
+  pub submit_reads : send.0 < 2 ^ 32 → recv.0 < 2 ^ 32
       → ReadsAsData r send recv n (chunk_at s.chunk (n - s.next.0) bytes) (data_packet r send recv n (chunk_at s.chunk (n - s.next.0) bytes))
-  submit-reads a b =
+  submit_reads a b =
       let d = submit_done s r send recv bytes store (count ∷ []) done in
-      let k = submit-count s r send recv bytes store count done in
+      let k = submit_count s r send recv bytes store count done in
       data_packet_reads r send recv d.keeps a b n (chunk_at s.chunk (n - s.next.0) bytes)
       (omega (arith, d.roomy.numbered, k.0))
       (omega (arith, submit_chunk_most s r send recv bytes store count done (n - s.next.0), d.roomy.chunk_most))

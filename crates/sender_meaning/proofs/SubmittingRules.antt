@@ -51,16 +51,16 @@ module _ (s : Sender) (store : List ℕ) (sound : Sound s store) (packet : List 
   spot some =
       let p = lowest_free s in
       let among = free_place s.marks s.count some in
-      let inside : p < 192 = omega (arith, among.1, sound.marks-long) in
+      let inside : p < 192 = omega (arith, among.1, sound.marks_long) in
       let free = place_is s.marks 0 among.1 in
       record {
         below = among.0;
         inside = inside;
         free = free;
         empty = (facts s store sound).no_number p among.1 free;
-        numbers_here = λ i e. rw e (get_or-set_same s.numbers p s.next.0 0 (omega (arith, sound.numbers-long)));
-        lengths_here = λ i e. rw e (get_or-set_same s.lengths p (length packet) 0 (omega (arith, sound.lengths-long)));
-        marks_here = λ i e. rw e (get_or-set_same s.marks p 1 0 (omega (arith, sound.marks-long)));
+        numbers_here = λ i e. rw e (get_or-set_same s.numbers p s.next.0 0 (omega (arith, sound.numbers_long)));
+        lengths_here = λ i e. rw e (get_or-set_same s.lengths p (length packet) 0 (omega (arith, sound.lengths_long)));
+        marks_here = λ i e. rw e (get_or-set_same s.marks p 1 0 (omega (arith, sound.marks_long)));
         numbers_there = λ i o. get_or-set_other s.numbers p i s.next.0 0 o;
         lengths_there = λ i o. get_or-set_other s.lengths p i (length packet) 0 o;
         marks_there = λ i o. get_or-set_other s.marks p i 1 0 o;
@@ -106,9 +106,9 @@ module _ (s : Sender) (store : List ℕ) (sound : Sound s store) (packet : List 
             (λ q. omega (arith, at.numbers_there i p, at.numbers_there j q, r.order i j (before i h) (before j k) flew (sym (at.marks_there j q) ∙ b))));
         some = λ i h n.
             at_or_off i
-            (λ p. omega (arith, at.numbers_here i p, r.next-some))
+            (λ p. omega (arith, at.numbers_here i p, r.next_some))
             (λ p. omega (arith, at.numbers_there i p, r.some i (before i h) (was i p n)));
-        next-some = omega arith;
+        next_some = omega arith;
         shut = λ i h c.
             at_or_off i
             (λ p. absurd (omega (arith, at.below)))
@@ -129,10 +129,10 @@ module _ (s : Sender) (store : List ℕ) (sound : Sound s store) (packet : List 
             at_or_off i
             (λ p. absurd (omega (arith, at.marks_here i p)))
             (λ p. r.no_resent i (before i h) (sym (at.marks_there i p) ∙ z));
-        not-sent = λ i h e.
+        not_sent = λ i h e.
             at_or_off i
             (λ p. r.no_time i (before i h) (ap (λ (k : ℕ). s.marks ! k) p ∙ at.free))
-            (λ p. r.not-sent i (before i h) (sym (at.marks_there i p) ∙ e));
+            (λ p. r.not_sent i (before i h) (sym (at.marks_there i p) ∙ e));
         unresent = λ i h e.
             at_or_off i
             (λ p. r.no_resent i (before i h) (ap (λ (k : ℕ). s.marks ! k) p ∙ at.free))
@@ -141,7 +141,7 @@ module _ (s : Sender) (store : List ℕ) (sound : Sound s store) (packet : List 
         few = rw (count_kept 2 s.marks (lowest_free s) 1 (λ e. omega (arith, at.free)) (λ e. omega arith)) r.few;
         past = λ i h. r.past i (before i h);
         due = r.due;
-        window-some = r.window-some;
+        window_some = r.window_some;
         window_most = r.window_most;
         timing = r.timing;
         long = λ i h n.

@@ -25,10 +25,10 @@ use Rattle.sender_meaning.proofs.SubmittingTables.{place_other, place_new}
 use Rattle.sender_meaning.proofs.SubmittingRules.{Room, grown, laid, Spot, spot, joined_ruled}
 
 -- no packet has the number 0
-pub zero-gone : (s : Sender) (store : List ℕ) → Sound s store → standing s store 0 ≡ gone
-zero-gone s store sound =
+pub zero_gone : (s : Sender) (store : List ℕ) → Sound s store → standing s store 0 ≡ gone
+zero_gone s store sound =
     let r = facts s store sound in
-    nowhere_gone s store sound 0 r.next-some (λ i h o e. omega (arith, r.some i (omega (arith, sound.marks-long)) o))
+    nowhere_gone s store sound 0 r.next_some (λ i h o e. omega (arith, r.some i (omega (arith, sound.marks_long)) o))
 
 -- two bounds of places make two bounds of bytes
 places_apart : (chunk p q : ℕ) → p < q → offset_of chunk p + (chunk + 1044) ≤ offset_of chunk q
@@ -48,13 +48,13 @@ module _ (s : Sender) (store : List ℕ) (sound : Sound s store) (packet : List 
   laid_long = laid_length store (offset_of s.chunk (lowest_free s)) packet within
 
   -- The step keeps what makes a state and its store belong together.
-  pub joined-sound : Sound (grown s packet) (laid s packet store)
-  joined-sound = record {
-    numbers-long = simp length-set sound.numbers-long;
-    lengths-long = simp length-set sound.lengths-long;
-    sent-long = sound.sent-long;
-    resent-long = sound.resent-long;
-    marks-long = simp length-set sound.marks-long;
+  pub joined_sound : Sound (grown s packet) (laid s packet store)
+  joined_sound = record {
+    numbers_long = simp length-set sound.numbers_long;
+    lengths_long = simp length-set sound.lengths_long;
+    sent_long = sound.sent_long;
+    resent_long = sound.resent_long;
+    marks_long = simp length-set sound.marks_long;
     keeps = rules_of_lem (grown s packet) (joined_ruled s store sound packet room);
     fits = rw laid_long sound.fits;
     width = omega (arith, room.usable);
@@ -68,16 +68,16 @@ module _ (s : Sender) (store : List ℕ) (sound : Sound s store) (packet : List 
   pub place_next : place_of (grown s packet).numbers s.next.0 ≡ lowest_free s
   place_next =
       let r = facts s store sound in
-      place_new s.numbers (lowest_free s) s.next.0 (omega (arith, here.inside, sound.numbers-long))
+      place_new s.numbers (lowest_free s) s.next.0 (omega (arith, here.inside, sound.numbers_long))
       (λ i h e.
-      let h' : i < length s.marks = omega (arith, sound.numbers-long, sound.marks-long) in
+      let h' : i < length s.marks = omega (arith, sound.numbers_long, sound.marks_long) in
       case
-      (λ (z : s.marks ! i ≡ 0). omega (arith, r.no_number i h' z, r.next-some))
+      (λ (z : s.marks ! i ≡ 0). omega (arith, r.no_number i h' z, r.next_some))
       (λ (n : s.marks ! i ≡ 0 → ⊥). omega (arith, r.low i h' n))
       (ℕ_discrete (s.marks ! i) 0))
 
-  pub size-next : size_of (grown s packet) s.next.0 ≡ length packet
-  size-next = here.lengths_here (place_of (grown s packet).numbers s.next.0) place_next
+  pub size_next : size_of (grown s packet) s.next.0 ≡ length packet
+  size_next = here.lengths_here (place_of (grown s packet).numbers s.next.0) place_next
 
   -- every other but 0 stands where it stood, which is not the place that was filled
   module _ (n : ℕ) (some : n ≡ 0 → ⊥) (other : s.next.0 ≡ n → ⊥) where
@@ -87,7 +87,7 @@ module _ (s : Sender) (store : List ℕ) (sound : Sound s store) (packet : List 
 
     elsewhere : place_of s.numbers n ≡ lowest_free s → ⊥
     elsewhere e =
-        some (sym (place_is s.numbers n (omega (arith, e, here.inside, sound.numbers-long))) ∙ ap (λ (i : ℕ). s.numbers ! i) e ∙ here.empty)
+        some (sym (place_is s.numbers n (omega (arith, e, here.inside, sound.numbers_long))) ∙ ap (λ (i : ℕ). s.numbers ! i) e ∙ here.empty)
 
     pub size_stays : size_of (grown s packet) n ≡ size_of s n
     size_stays = rw place_stays (here.lengths_there (place_of s.numbers n) elsewhere)
@@ -99,12 +99,12 @@ module _ (s : Sender) (store : List ℕ) (sound : Sound s store) (packet : List 
         let p = place_of s.numbers n in
         case
         (λ (h : p < 192).
-        let h' : p < length s.marks = omega (arith, sound.marks-long) in
+        let h' : p < length s.marks = omega (arith, sound.marks_long) in
         case
         (λ (z : s.marks ! p ≡ 0). omega (arith, r.no_length p h' z))
         (λ (m : s.marks ! p ≡ 0 → ⊥). r.short p h' m)
         (ℕ_discrete (s.marks ! p) 0))
-        (λ (h : p < 192 → ⊥). omega (arith, beyond s.lengths p 0 (omega (arith, sound.lengths-long))))
+        (λ (h : p < 192 → ⊥). omega (arith, beyond s.lengths p 0 (omega (arith, sound.lengths_long))))
         (dec_lt p 192)
 
     packet_stays : stored_packet (grown s packet) (laid s packet store) n ≡ stored_packet s store n
@@ -130,11 +130,11 @@ module _ (s : Sender) (store : List ℕ) (sound : Sound s store) (packet : List 
         rw (lt-leb (s.next.0 + 1) n (omega arith), lt-leb s.next.0 n h, mark, time, packet_stays)
 
   -- The next number waits as the packet.
-  pub next-waits : standing (grown s packet) (laid s packet store) s.next.0 ≡ waits packet
+  pub next_waits : standing (grown s packet) (laid s packet store) s.next.0 ≡ waits packet
   unfolding standing
-  next-waits =
+  next_waits =
       let mark = here.marks_here (place_of (grown s packet).numbers s.next.0) place_next in
-      rw (lt-leb (s.next.0 + 1) s.next.0 (omega arith), mark, size-next, place_next)
+      rw (lt-leb (s.next.0 + 1) s.next.0 (omega arith), mark, size_next, place_next)
       (ap waits (laid_here store (offset_of s.chunk (lowest_free s)) packet within))
 
   -- Every other number stands as it did.
@@ -143,7 +143,7 @@ module _ (s : Sender) (store : List ℕ) (sound : Sound s store) (packet : List 
   others_stand n other =
       case
       (λ (z : n ≡ 0).
-      rw z (zero-gone (grown s packet) (laid s packet store) joined-sound ∙ sym (zero-gone s store sound)))
+      rw z (zero_gone (grown s packet) (laid s packet store) joined_sound ∙ sym (zero_gone s store sound)))
       (λ (some : n ≡ 0 → ⊥).
       case
       (λ (h : n < s.next.0). stands_below n some other h)

@@ -21,8 +21,8 @@ use Rattle.sender_meaning.specs.Steps.{submitted_as, is_outside}
 use Rattle.sender_meaning.specs.Changes.{Stores}
 use Rattle.sender_meaning.proofs.Stands.{facts}
 use Rattle.sender_meaning.proofs.SubmittingRules.{Room, grown, laid}
-use Rattle.sender_meaning.proofs.SubmittingStep.{laid_long, joined-sound, free_less, place_next, size-next, place_stays, size_stays, next-waits, others_stand, byte_stays}
-use Rattle.sender_meaning.proofs.SubmittingChunks.{chunk-later}
+use Rattle.sender_meaning.proofs.SubmittingStep.{laid_long, joined_sound, free_less, place_next, size_next, place_stays, size_stays, next_waits, others_stand, byte_stays}
+use Rattle.sender_meaning.proofs.SubmittingChunks.{chunk_later}
 
 -- each packet that is made of a chunk fits a place
 pub record FitsPlaces (packet : ℕ → List ℕ → List ℕ) (chunk : ℕ) : Type 0 where
@@ -57,7 +57,7 @@ module _ (packet : ℕ → List ℕ → List ℕ) (chunk next left : ℕ) (bytes
       case
       (λ (g : n < next + suc left).
       let e : n - next ≡ suc (n - (next + 1)) = omega (arith, o) in
-      rw (le-leb (next + 1) n (omega (arith, o)), le-leb next n (omega arith), lt-ltb n (next + suc left) g, lt-ltb n (next + 1 + left) (omega arith), e, chunk-later chunk (n - (next + 1)) bytes))
+      rw (le-leb (next + 1) n (omega (arith, o)), le-leb next n (omega arith), lt-ltb n (next + suc left) g, lt-ltb n (next + 1 + left) (omega arith), e, chunk_later chunk (n - (next + 1)) bytes))
       (λ (g : n < next + suc left → ⊥).
       rw (le-leb (next + 1) n (omega (arith, o)), le-leb next n (omega arith), le-ltb n (next + suc left) (omega arith), le-ltb n (next + 1 + left) (omega arith), others o))
       (dec_lt n (next + suc left)))
@@ -68,13 +68,13 @@ module _ (packet : ℕ → List ℕ → List ℕ) where
   stores_none : (bytes : List ℕ) (s : Sender) (store : List ℕ) → Sound s store → Stores packet 0 bytes s store (record { state = s; store = store })
   stores_none bytes s store sound = record {
     sound = sound;
-    next-is = omega arith;
-    chunk-is = refl;
-    count-is = refl;
-    window-is = refl;
-    timing-is = refl;
-    timer-is = refl;
-    clock-is = refl;
+    next_is = omega arith;
+    chunk_is = refl;
+    count_is = refl;
+    window_is = refl;
+    timing_is = refl;
+    timer_is = refl;
+    clock_is = refl;
     means = λ n. means_none packet s.chunk s.next.0 0 bytes n (standing s store n);
     place_is = λ n some below. refl;
     size_is = λ n some below. refl;
@@ -86,20 +86,20 @@ module _ (packet : ℕ → List ℕ → List ℕ) where
       (after : Stored) (rest : Stores packet left (drop s.chunk bytes) (grown s made) (laid s made store) after) where
     stores_more : Stores packet (suc left) bytes s store after
     stores_more =
-        let some = (facts s store sound).next-some in
+        let some = (facts s store sound).next_some in
         record {
           sound = rest.sound;
-          next-is = omega (arith, rest.next-is);
-          chunk-is = rest.chunk-is;
-          count-is = rest.count-is;
-          window-is = rest.window-is;
-          timing-is = rest.timing-is;
-          timer-is = rest.timer-is;
-          clock-is = rest.clock-is;
+          next_is = omega (arith, rest.next_is);
+          chunk_is = rest.chunk_is;
+          count_is = rest.count_is;
+          window_is = rest.window_is;
+          timing_is = rest.timing_is;
+          timer_is = rest.timer_is;
+          clock_is = rest.clock_is;
           means = λ n.
               rest.means n
               ∙ means_more packet s.chunk s.next.0 left bytes n (standing s store n) (standing (grown s made) (laid s made store) n)
-              (λ e. rw (← e) (next-waits s store sound made room ∙ ap waits is))
+              (λ e. rw (← e) (next_waits s store sound made room ∙ ap waits is))
               (λ o. others_stand s store sound made room n o);
           place_is = λ n z below. rest.place_is n z (omega arith) ∙ place_stays s store sound made room n z (λ e. omega arith);
           size_is = λ n z below. rest.size_is n z (omega arith) ∙ size_stays s store sound made room n z (λ e. omega arith);
@@ -107,11 +107,11 @@ module _ (packet : ℕ → List ℕ → List ℕ) where
           byte_is = λ k out.
               let z : s.next.0 ≡ 0 → ⊥ = λ e. omega arith in
               let place : place_of after.state.numbers s.next.0 ≡ lowest_free s = rest.place_is s.next.0 z (omega arith) ∙ place_next s store sound made room in
-              let size : size_of after.state s.next.0 ≡ length made = rest.size_is s.next.0 z (omega arith) ∙ size-next s store sound made room in
+              let size : size_of after.state s.next.0 ≡ length made = rest.size_is s.next.0 z (omega arith) ∙ size_next s store sound made room in
               let own : is_outside after.state s.next.0 k ≡ true = out s.next.0 (omega arith) (omega arith) in
               rest.byte_is k (λ n a b. out n (omega arith) (omega arith))
               ∙ byte_stays s store sound made room k
-              (outside (offset_of s.chunk (lowest_free s)) (length made) k (rw (rest.chunk-is, size, place) at own));
+              (outside (offset_of s.chunk (lowest_free s)) (length made) k (rw (rest.chunk_is, size, place) at own));
         }
 
   -- So many packets, each in the lowest place that is free then.
@@ -134,4 +134,4 @@ module _ (packet : ℕ → List ℕ → List ℕ) where
         free = omega (arith, rooms.free, free_less s store sound made room);
         numbered = omega (arith, rooms.numbered);
       } in
-      stores_more left bytes s store sound made room refl _ (stores left (drop s.chunk bytes) (grown s made) (laid s made store) (joined-sound s store sound made room) rooms' fit)
+      stores_more left bytes s store sound made room refl _ (stores left (drop s.chunk bytes) (grown s made) (laid s made store) (joined_sound s store sound made room) rooms' fit)

@@ -23,13 +23,13 @@ use Rattle.sender_meaning.specs.Steps.{sent_as, acked_as, goes_again, resent_as,
 -- what so many packets more leave: a state and a store that belong together, every number's standing, and every byte that is none of theirs
 pub record Stores (packet : ℕ → List ℕ → List ℕ) (count : ℕ) (bytes : List ℕ) (s : Sender) (store : List ℕ) (after : Stored) : Type 0 where
   pub sound : Sound after.state after.store
-  pub next-is : after.state.next.0 ≡ s.next.0 + count
-  pub chunk-is : after.state.chunk ≡ s.chunk
-  pub count-is : after.state.count ≡ s.count
-  pub window-is : after.state.window ≡ s.window
-  pub timing-is : after.state.timing ≡ s.timing
-  pub timer-is : after.state.timer ≡ s.timer
-  pub clock-is : after.state.clock ≡ s.clock
+  pub next_is : after.state.next.0 ≡ s.next.0 + count
+  pub chunk_is : after.state.chunk ≡ s.chunk
+  pub count_is : after.state.count ≡ s.count
+  pub window_is : after.state.window ≡ s.window
+  pub timing_is : after.state.timing ≡ s.timing
+  pub timer_is : after.state.timer ≡ s.timer
+  pub clock_is : after.state.clock ≡ s.clock
   pub means : (n : ℕ) → standing after.state after.store n ≡ submitted_as packet s.chunk s.next.0 count bytes n (standing s store n)
   pub place_is : (n : ℕ) → (n ≡ 0 → ⊥) → n < s.next.0 → place_of after.state.numbers n ≡ place_of s.numbers n
   pub size_is : (n : ℕ) → (n ≡ 0 → ⊥) → n < s.next.0 → size_of after.state n ≡ size_of s n
@@ -39,19 +39,19 @@ pub record Stores (packet : ℕ → List ℕ → List ℕ) (count : ℕ) (bytes 
 -- What our reader finds in the packet p of a number and a chunk, with the ack fields of the receiver r.
 pub record ReadsAsData (r : Receiver) (send recv : StreamId) (number : ℕ) (payload p : List ℕ) : Type 0 where
   pub readable : read_of p ≡ values (fields_of p)
-  pub send-read : (fields_of p).send_stream_id.0 ≡ send.0
+  pub send_read : (fields_of p).send_stream_id.0 ≡ send.0
   pub recv_read : (fields_of p).recv_stream_id.0 ≡ recv.0
   pub number_read : (fields_of p).seq_nro.0 ≡ number
   pub through_read : (fields_of p).ack_through.0 ≡ ack_through_of r
-  pub count-read : nack_count p ≡ length (ack_nacks_of r)
+  pub count_read : nack_count p ≡ length (ack_nacks_of r)
   pub nacks_read : numbers_at 4 (nack_count p) 17 p ≡ ack_nacks_of r
-  pub flags-read : (fields_of p).flags ≡ (ack_fields_of r).flags
+  pub flags_read : (fields_of p).flags ≡ (ack_fields_of r).flags
   -- NO ACK is clear: its ack fields count
-  pub acks-count : bit 10 (fields_of p).flags ≡ false
+  pub acks_count : bit 10 (fields_of p).flags ≡ false
   pub payload_read : payload_of p ≡ payload
-  pub resend-delay-read : (fields_of p).resend_delay ≡ 0
-  pub delay-read : (fields_of p).delay ≡ (ack_fields_of r).delay
-  pub max-size-read : (fields_of p).max_size ≡ 0
+  pub resend_delay_read : (fields_of p).resend_delay ≡ 0
+  pub delay_read : (fields_of p).delay ≡ (ack_fields_of r).delay
+  pub max_size_read : (fields_of p).max_size ≡ 0
   pub no_destination_there : destination_of p ≡ []
   pub no_signature : signature_of p ≡ []
   pub no_leftover : (fields_of p).leftover ≡ 0
@@ -64,12 +64,12 @@ pub record Departs (s : Sender) (clock : ℕ) (store output given : List ℕ) : 
   pub gives : given ≡ told ∷ length packet ∷ []
   pub was : standing s store told ≡ waits packet
   pub lowest : (n : ℕ) → does_wait (standing s store n) ≡ true → told ≤ n
-  pub output-is : (send_of s clock store output).lent ≡ packet at_front_of output
+  pub output_is : (send_of s clock store output).lent ≡ packet at_front_of output
   pub now_is : (n : ℕ) → standing (send_of s clock store output).state store n ≡ sent_as told clock n (standing s store n)
-  pub next-is : (send_of s clock store output).state.next ≡ s.next
-  pub chunk-is : (send_of s clock store output).state.chunk ≡ s.chunk
-  pub count-is : (send_of s clock store output).state.count ≡ s.count
-  pub clock-is : (send_of s clock store output).state.clock ≡ clock
+  pub next_is : (send_of s clock store output).state.next ≡ s.next
+  pub chunk_is : (send_of s clock store output).state.chunk ≡ s.chunk
+  pub count_is : (send_of s clock store output).state.count ≡ s.count
+  pub clock_is : (send_of s clock store output).state.clock ≡ clock
   pub later : s.clock ≤ clock
   pub room : length (in_flight s) < s.window
 
@@ -77,10 +77,10 @@ pub record Departs (s : Sender) (clock : ℕ) (store output given : List ℕ) : 
 pub record LeavesFlight (s : Sender) (through : ℕ) (nacks : List ℕ) (clock : ℕ) (store given : List ℕ) : Type 0 where
   pub gives : given ≡ length (acked_of s through nacks) ∷ []
   pub now_is : (n : ℕ) → standing (acks_of s through nacks clock).state store n ≡ acked_as through nacks n (standing s store n)
-  pub next-is : (acks_of s through nacks clock).state.next ≡ s.next
-  pub chunk-is : (acks_of s through nacks clock).state.chunk ≡ s.chunk
-  pub count-is : (acks_of s through nacks clock).state.count ≡ s.count
-  pub clock-is : (acks_of s through nacks clock).state.clock ≡ clock
+  pub next_is : (acks_of s through nacks clock).state.next ≡ s.next
+  pub chunk_is : (acks_of s through nacks clock).state.chunk ≡ s.chunk
+  pub count_is : (acks_of s through nacks clock).state.count ≡ s.count
+  pub clock_is : (acks_of s through nacks clock).state.clock ≡ clock
   pub later : s.clock ≤ clock
   pub within : through ≤ s.next.0
   pub few : length nacks ≤ 255
@@ -89,10 +89,10 @@ pub record LeavesFlight (s : Sender) (through : ℕ) (nacks : List ℕ) (clock :
 pub record GoesAgain (s : Sender) (clock : ℕ) (path : Bool) (store given : List ℕ) : Type 0 where
   pub gives : given ≡ resend_count s clock path ∷ []
   pub now_is : (n : ℕ) → standing (resend_of s clock path).state store n ≡ resent_as (goes_again s clock path) clock n (standing s store n)
-  pub next-is : (resend_of s clock path).state.next ≡ s.next
-  pub chunk-is : (resend_of s clock path).state.chunk ≡ s.chunk
-  pub count-is : (resend_of s clock path).state.count ≡ s.count
-  pub clock-is : (resend_of s clock path).state.clock ≡ clock
+  pub next_is : (resend_of s clock path).state.next ≡ s.next
+  pub chunk_is : (resend_of s clock path).state.chunk ≡ s.chunk
+  pub count_is : (resend_of s clock path).state.count ≡ s.count
+  pub clock_is : (resend_of s clock path).state.clock ≡ clock
   pub later : s.clock ≤ clock
 
 -- what a fetch that is done gives
@@ -102,4 +102,4 @@ pub record Fetched (s : Sender) (rank : ℕ) (store output given : List ℕ) : T
   pub inside : rank < length (in_flight s)
   pub is : standing s store (in_flight s ! rank) ≡ flies packet sent
   pub gives : given ≡ length packet ∷ []
-  pub output-is : (fetch_of s rank store output).output ≡ packet at_front_of output
+  pub output_is : (fetch_of s rank store output).output ≡ packet at_front_of output

@@ -54,11 +54,11 @@ does_fly gone = false
 
 -- a state and a store that belong together: the table is whole, the rules hold, the sizes fit, and next has its width
 pub record Sound (s : Sender) (store : List ℕ) : Type 0 where
-  pub numbers-long : length s.numbers ≡ 192
-  pub lengths-long : length s.lengths ≡ 192
-  pub sent-long : length s.sent ≡ 192
-  pub resent-long : length s.resent ≡ 192
-  pub marks-long : length s.marks ≡ 192
+  pub numbers_long : length s.numbers ≡ 192
+  pub lengths_long : length s.lengths ≡ 192
+  pub sent_long : length s.sent ≡ 192
+  pub resent_long : length s.resent ≡ 192
+  pub marks_long : length s.marks ≡ 192
   pub keeps : rules s ≡ true
   pub fits : sizes_fit s.chunk s.count (length store) ≡ true
   pub width : s.next.0 < 4294967296

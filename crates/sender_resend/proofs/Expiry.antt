@@ -15,7 +15,7 @@ use Rattle.sender_state.specs.Table.{◌!◌, place_of}
 use Rattle.sender_state.specs.Numbers.{run, numbers_where, marked_with}
 use Rattle.sender_resend.specs.Steps.{Expires}
 use Rattle.sender_resend.specs.Resend.{run_while, aged, expired_in}
-use Rattle.sender_state.proofs.Runs.{beyond, run-append}
+use Rattle.sender_state.proofs.Runs.{beyond, run_append}
 use Rattle.sender_state.proofs.Search.{Ahead, ahead, least_low}
 
 -- what stands before a common end
@@ -55,7 +55,7 @@ module _ (numbers sent marks : List ℕ) (next clock rto window : ℕ) where
     whole : numbers_where numbers next (marked_with 2 marks) ≡ run flies 0 end ++ run flies end (next - end)
     whole =
         let e : next ≡ end + (next - end) = omega (arith, r.inside) in
-        ap (run flies 0) e ∙ run-append flies end 0 (next - end) ∙ ap (λ (k : ℕ). run flies 0 end ++ run flies k (next - end)) (zero-add end)
+        ap (run flies 0) e ∙ run_append flies end 0 (next - end) ∙ ap (λ (k : ℕ). run flies 0 end ++ run flies k (next - end)) (zero-add end)
 
     -- the run ends where the rest has no old front, or the window is full
     pub expire_stop : run_while old (run flies end (next - end)) ≡ [] → Expires numbers sent marks next clock rto window (record { count = count; end = end })
@@ -98,11 +98,11 @@ module _ (numbers sent marks : List ℕ) (next clock rto window : ℕ) where
         let split : run flies end (next - end) ≡ run flies end (low + 1 - end) ++ tail =
         let n : next - end ≡ (low + 1 - end) + (next - (low + 1)) = omega (arith, r.reach, below) in
         let m : end + (low + 1 - end) ≡ low + 1 = omega (arith, r.reach) in
-        ap (run flies end) n ∙ run-append flies (low + 1 - end) end (next - (low + 1)) ∙ ap (λ (k : ℕ). run flies end (low + 1 - end) ++ run flies k (next - (low + 1))) m in
+        ap (run flies end) n ∙ run_append flies (low + 1 - end) end (next - (low + 1)) ∙ ap (λ (k : ℕ). run flies end (low + 1 - end) ++ run flies k (next - (low + 1))) m in
         let one : run flies end (low + 1 - end) ≡ low ∷ [] = cancel (run flies end (low + 1 - end)) (low ∷ []) tail (sym split ∙ r.front.more some) in
         let is : run flies 0 (low + 1) ≡ run flies 0 end ++ (low ∷ []) =
         let n : low + 1 ≡ end + (low + 1 - end) = omega (arith, r.reach) in
-        ap (run flies 0) n ∙ run-append flies end 0 (low + 1 - end) ∙ ap (λ (k : ℕ). run flies 0 end ++ run flies k (low + 1 - end)) (zero-add end) ∙ ap (λ (l : List ℕ). run flies 0 end ++ l) one in
+        ap (run flies 0) n ∙ run_append flies end 0 (low + 1 - end) ∙ ap (λ (k : ℕ). run flies 0 end ++ run flies k (low + 1 - end)) (zero-add end) ∙ ap (λ (l : List ℕ). run flies 0 end ++ l) one in
         record {
           front = rw e (ahead numbers marks 2 next tidy (low + 1) (omega (arith, below)));
           inside = omega (arith, below);

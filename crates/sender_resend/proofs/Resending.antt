@@ -69,9 +69,9 @@ module _ (numbers marks : List ℕ) (next end : ℕ) (tidy : Tidy numbers marks 
 
 -- what keeps resend from being done, and what holds where nothing does
 module _ (s : Sender) (clock : ℕ) (path : Bool) (answer : Answer) (judged : said answer ≡ resend_refusal s clock) where
-  pub resend-kept : (why : Refusal) → answer ≡ A.Refused why → ◌≡◌ {A = Outcome} (record { says = refusal (number_of why); state = s; lent = [] }) (resend_of s clock path)
+  pub resend_kept : (why : Refusal) → answer ≡ A.Refused why → ◌≡◌ {A = Outcome} (record { says = refusal (number_of why); state = s; lent = [] }) (resend_of s clock path)
   unfolding resend_of
-  resend-kept why is = let e : resend_refusal s clock ≡ refusal (number_of why) = sym judged ∙ ap said is in simp e
+  resend_kept why is = let e : resend_refusal s clock ≡ refusal (number_of why) = sym judged ∙ ap said is in simp e
 
   pub resend_pass : answer ≡ A.Done → ◌≡◌ {A = Outcome} (record { says = values (resend_count s clock path ∷ []); state = resend_leaves s clock path; lent = [] }) (resend_of s clock path)
   unfolding resend_of
@@ -100,8 +100,8 @@ module _ (s : Sender) (tidy : Tidy s.numbers s.marks 2 s.next.0) (low : ℕ) (e 
   pub none_flies : low ≡ 4294967295 → length (in_flight s) ≤ 0
   none_flies q = rw (lowest.none q) (omega arith)
 
-  pub some-flies : (low ≡ 4294967295 → ⊥) → 0 < length (in_flight s)
-  some-flies o = rw (lowest.more (omega (arith, lowest.most, o))) (omega arith)
+  pub some_flies : (low ≡ 4294967295 → ⊥) → 0 < length (in_flight s)
+  some_flies o = rw (lowest.more (omega (arith, lowest.most, o))) (omega arith)
 
 -- the three ways
 module _ (s : Sender) (clock : ℕ) where
@@ -109,19 +109,19 @@ module _ (s : Sender) (clock : ℕ) where
   Left path = record { says = values (resend_count s clock path ∷ []); state = resend_leaves s clock path; lent = [] }
 
   -- nothing in flight
-  pub left-idle : (path : Bool) → length (in_flight s) ≤ 0 → (state : Sender) → state ≡ timed_at s T.Unarmed clock
+  pub left_idle : (path : Bool) → length (in_flight s) ≤ 0 → (state : Sender) → state ≡ timed_at s T.Unarmed clock
       → ◌≡◌ {A = Outcome} (record { says = values (0 ∷ []); state = state; lent = [] }) (Left path)
-  left-idle true h state e = let n = nothing (in_flight s) h in rw (e, n) (rw (take-nil {A = ℕ} s.window))
-  left-idle false h state e = let n = nothing (in_flight s) h in rw (e, n)
+  left_idle true h state e = let n = nothing (in_flight s) h in rw (e, n) (rw (take-nil {A = ℕ} s.window))
+  left_idle false h state e = let n = nothing (in_flight s) h in rw (e, n)
 
   module _ (some : 0 < length (in_flight s)) where
     -- none expired, or no new path
-    pub left-later : (count : ℕ) → count ≡ length (expired_of s clock) → (path : Bool) → (eqb count 0 || not path) ≡ true → (state : Sender)
+    pub left_later : (count : ℕ) → count ≡ length (expired_of s clock) → (path : Bool) → (eqb count 0 || not path) ≡ true → (state : Sender)
         → state ≡ timed_at s (T.At (clock + rto_of s.timing)) clock → ◌≡◌ {A = Outcome} (record { says = values (0 ∷ []); state = state; lent = [] }) (Left path)
-    left-later count n true t state e =
+    left_later count n true t state e =
         let z : length (expired_of s clock) ≡ 0 = sym n ∙ eqb-true count 0 (or_left (eqb count 0) false refl t) in
         rw (e, lt-leb (length (in_flight s)) 0 some, z)
-    left-later count n false t state e = rw (e, lt-leb (length (in_flight s)) 0 some, or-true (is_empty (expired_of s clock)))
+    left_later count n false t state e = rw (e, lt-leb (length (in_flight s)) 0 some, or-true (is_empty (expired_of s clock)))
 
     -- the expired go out again
     pub left_again : 0 < length (expired_of s clock) → (count : ℕ) → count ≡ length (expired_of s clock) → (again : ℕ → Bool) → again ≡ (λ i. is_in (expired_of s clock) (s.numbers ! i))

@@ -35,8 +35,8 @@ standing_in kept n = standing kept.state kept.store n
 pub record Goes (before after : Kept) (fair : Bool) (made : ℕ → Option (List ℕ)) (sent named acked : ℕ → Bool) : Type 0 where
   pub sound : Sound after.state after.store
   pub long : length after.store ≡ length before.store
-  pub chunk-is : after.state.chunk ≡ before.state.chunk
-  pub count-is : after.state.count ≡ before.state.count
+  pub chunk_is : after.state.chunk ≡ before.state.chunk
+  pub count_is : after.state.count ≡ before.state.count
   pub rises : before.state.next.0 ≤ after.state.next.0
   pub fairly : fair ≡ true
   pub range : (n : ℕ) (packet : List ℕ) → made n ≡ some packet → (before.state.next.0 ≤ n) × (n < after.state.next.0)
@@ -58,8 +58,8 @@ module _ (before after : Kept) (fair : Bool) (made : ℕ → Option (List ℕ)) 
   stayed sound p q unsent unnamed = record {
     sound = rw (p, q) sound;
     long = rw q;
-    chunk-is = rw p;
-    count-is = rw p;
+    chunk_is = rw p;
+    count_is = rw p;
     rises = rw p (omega arith);
     fairly = f;
     range = λ n packet e. not_made e (nothing n);
@@ -74,8 +74,8 @@ module _ (before after : Kept) (fair : Bool) (made : ℕ → Option (List ℕ)) 
   changed sound l c k next means = record {
     sound = sound;
     long = l;
-    chunk-is = c;
-    count-is = k;
+    chunk_is = c;
+    count_is = k;
     rises = rw next (omega arith);
     fairly = f;
     range = λ n packet e. not_made e (nothing n);
@@ -89,15 +89,15 @@ module _ (before mid after : Kept) (fair fair' : Bool) (made made' : ℕ → Opt
     (one : Goes before mid fair made sent named (λ n. false)) (more : Goes mid after fair' made' sent' named' acked') where
   -- what is made later was not told before
   untold : (n : ℕ) (packet : List ℕ) → made n ≡ none → made' n ≡ some packet → sent n ≡ false
-  untold n packet z g = (one.still n z).unmade-unsent (unmade_from before.state before.store n (omega (arith, one.rises, (more.range n packet g).0)))
+  untold n packet z g = (one.still n z).unmade_unsent (unmade_from before.state before.store n (omega (arith, one.rises, (more.range n packet g).0)))
 
   pub goes_then : Goes before after (fair && fair') (λ n. or_else (made n) (made' n)) (λ n. sent n || sent' n) (λ n. named n || named' n) acked
   unfolding or_else
   goes_then = record {
     sound = more.sound;
     long = more.long ∙ one.long;
-    chunk-is = more.chunk-is ∙ one.chunk-is;
-    count-is = more.count-is ∙ one.count-is;
+    chunk_is = more.chunk_is ∙ one.chunk_is;
+    count_is = more.count_is ∙ one.count_is;
     rises = omega (arith, one.rises, more.rises);
     fairly = and_both fair fair' one.fairly more.fairly;
     range = λ n packet h.
@@ -149,15 +149,15 @@ module _ (kept : Kept) (r : Receiver) (to from : StreamId) (bytes : List ℕ) (s
       record {
         sound = st.sound;
         long = st.long;
-        chunk-is = st.chunk-is;
-        count-is = st.count-is;
-        rises = omega (arith, st.next-is);
+        chunk_is = st.chunk_is;
+        count_is = st.count_is;
+        rises = omega (arith, st.next_is);
         fairly = f;
         range = λ n packet e.
             by_bool (leb s.next.0 n && ltb n (s.next.0 + count))
             (λ t. (
               leb-true _ _ (and_left (leb s.next.0 n) _ t),
-              omega (arith, st.next-is, ltb-true n (s.next.0 + count) (and_right (leb s.next.0 n) (ltb n (s.next.0 + count)) t)),
+              omega (arith, st.next_is, ltb-true n (s.next.0 + count) (and_right (leb s.next.0 n) (ltb n (s.next.0 + count)) t)),
             ))
             (λ g. let h = rw g at e in not_made h refl);
         fresh = λ n packet e.

@@ -14,11 +14,11 @@ use Rattle.sender_send.specs.Fetch.{fetch_of}
 use Rattle.sender_meaning.specs.Meaning.{packet_in, does_fly}
 use Rattle.sender_meaning.proofs.Counts.{by_bool}
 use Rattle.sender_meaning.proofs.Sends.{send_changes}
-use Rattle.sender_meaning.proofs.Fetches.{fetch-gives}
+use Rattle.sender_meaning.proofs.Fetches.{fetch_gives}
 use Rattle.sender_runs.specs.Runs.{Call, submit, send, acks, resend, fetch, Event, Kept, step_of, kept_after, events_of, Run, begun, history_of, end_of}
 use Rattle.sender_runs.specs.Remembers.{acked_in}
 use Rattle.sender_runs.specs.Leaves.{SendLeaves, FetchLeaves, Leaves}
-use Rattle.sender_runs.proofs.Remembering.{remembers, flies-sent}
+use Rattle.sender_runs.proofs.Remembering.{remembers, flies_sent}
 
 -- the calls before an event, and its own
 record Came (kept : Kept) (earlier : List Event) (e : Event) : Type 0 where
@@ -73,9 +73,9 @@ module _ (run : Run) (calls : List Call) where
         given_is = c.gives;
         as_made = record {
           packet = c.packet;
-          was-made = r.as_made c.told c.packet (ap packet_in c.was);
+          was_made = r.as_made c.told c.packet (ap packet_in c.was);
           size_is = refl;
-          left_is = out ∙ c.output-is;
+          left_is = out ∙ c.output_is;
         };
       }
 
@@ -84,18 +84,18 @@ module _ (run : Run) (calls : List Call) where
       → FetchLeaves run (history_of (up_to run calls)) e output given
   fetch_leaves rank output given done e out =
       let r = remembers (up_to run calls) in
-      let f = fetch-gives before.state rank before.store output r.sound given done in
+      let f = fetch_gives before.state rank before.store output r.sound given done in
       let n = in_flight before.state ! rank in
       let Made-so = r.as_made n f.packet (ap packet_in f.is) in
       record {
         number = n;
         size = length f.packet;
         given_is = f.gives;
-        was-sent = flies-sent (up_to run calls) n (ap does_fly f.is);
+        was_sent = flies_sent (up_to run calls) n (ap does_fly f.is);
         not_acked = by_bool (acked_in n (history_of (up_to run calls)))
             (λ t. absurd (true≢false (sym (ap does_fly f.is) ∙ ap does_fly (r.gone_when_acked n f.packet Made-so t))))
             (λ g. g);
-        as_made = record { packet = f.packet; was-made = Made-so; size_is = refl; left_is = out ∙ f.output-is };
+        as_made = record { packet = f.packet; was_made = Made-so; size_is = refl; left_is = out ∙ f.output_is };
       }
 
 pub leaves_as_made : (run : Run) → Leaves run

@@ -21,10 +21,10 @@ FliesAs packet x = (packet_in x ≡ some packet) × (does_fly x ≡ true)
 pub record Later (sent named acked : Bool) (x y : Standing) : Type 0 where
   pub unmade_stays : x ≡ unmade → y ≡ unmade
   pub gone_stays : x ≡ gone → y ≡ gone
-  pub unmade-unsent : x ≡ unmade → sent ≡ false
-  pub gone-unsent : x ≡ gone → sent ≡ false
+  pub unmade_unsent : x ≡ unmade → sent ≡ false
+  pub gone_unsent : x ≡ gone → sent ≡ false
   pub waits_on : (packet : List ℕ) → x ≡ waits packet → sent ≡ false → y ≡ waits packet
-  pub sent-flies : (packet : List ℕ) → x ≡ waits packet → sent ≡ true → acked ≡ false → FliesAs packet y
+  pub sent_flies : (packet : List ℕ) → x ≡ waits packet → sent ≡ true → acked ≡ false → FliesAs packet y
   pub acked_gone : (packet : List ℕ) → x ≡ waits packet → acked ≡ true → y ≡ gone
   pub flies_on : (packet : List ℕ) → FliesAs packet x → named ≡ false → FliesAs packet y
   pub named_gone : (packet : List ℕ) → FliesAs packet x → named ≡ true → y ≡ gone
@@ -42,16 +42,16 @@ pub later_then : (s n s' n' a' a : Bool) (x y z : Standing) → SinceSent s n' a
 later_then s n s' n' a' a x y z c p q = record {
   unmade_stays = λ e. q.unmade_stays (p.unmade_stays e);
   gone_stays = λ e. q.gone_stays (p.gone_stays e);
-  unmade-unsent = λ e. both_false s s' (p.unmade-unsent e) (q.unmade-unsent (p.unmade_stays e));
-  gone-unsent = λ e. both_false s s' (p.gone-unsent e) (q.gone-unsent (p.gone_stays e));
+  unmade_unsent = λ e. both_false s s' (p.unmade_unsent e) (q.unmade_unsent (p.unmade_stays e));
+  gone_unsent = λ e. both_false s s' (p.gone_unsent e) (q.gone_unsent (p.gone_stays e));
   waits_on = λ packet e f. q.waits_on packet (p.waits_on packet e (or_false_left s s' f)) (or_false_right s s' f);
-  sent-flies = λ packet e t f.
+  sent_flies = λ packet e t f.
       by_bool s
-      (λ h. q.flies_on packet (p.sent-flies packet e h refl) (sym (c.once_sent h) ∙ f))
-      (λ h. q.sent-flies packet (p.waits_on packet e h) (or_right s s' h t) (sym (c.not_yet h) ∙ f));
+      (λ h. q.flies_on packet (p.sent_flies packet e h refl) (sym (c.once_sent h) ∙ f))
+      (λ h. q.sent_flies packet (p.waits_on packet e h) (or_right s s' h t) (sym (c.not_yet h) ∙ f));
   acked_gone = λ packet e t.
       by_bool s
-      (λ h. q.named_gone packet (p.sent-flies packet e h refl) (sym (c.once_sent h) ∙ t))
+      (λ h. q.named_gone packet (p.sent_flies packet e h refl) (sym (c.once_sent h) ∙ t))
       (λ h. q.acked_gone packet (p.waits_on packet e h) (sym (c.not_yet h) ∙ t));
   flies_on = λ packet e f. q.flies_on packet (p.flies_on packet e (or_false_left n n' f)) (or_false_right n n' f);
   named_gone = λ packet e t.
@@ -61,13 +61,13 @@ later_then s n s' n' a' a x y z c p q = record {
 }
 
 -- the packet that is there later is the one that waited
-pub later-packet : (s n a : Bool) (packet other : List ℕ) (y : Standing) → Later s n a (waits packet) y → packet_in y ≡ some other → some packet ≡ some other
-later-packet s n a packet other y p e =
+pub later_packet : (s n a : Bool) (packet other : List ℕ) (y : Standing) → Later s n a (waits packet) y → packet_in y ≡ some other → some packet ≡ some other
+later_packet s n a packet other y p e =
     by_bool s
     (λ h.
     by_bool a
     (λ t. let g = p.acked_gone packet refl t in let f = rw g at e in let w : ◌≡◌ {A = ℕ} 0 1 = cc in absurd (omega arith))
-    (λ f. sym (p.sent-flies packet refl h f).0 ∙ e))
+    (λ f. sym (p.sent_flies packet refl h f).0 ∙ e))
     (λ f. sym (ap packet_in (p.waits_on packet refl f)) ∙ e)
 
 -- a number that no send tells stays; so does what flies where no acks name it
@@ -75,24 +75,24 @@ pub later_same : (named : Bool) (x : Standing) → (does_fly x ≡ true → name
 later_same named x unnamed = record {
   unmade_stays = λ e. e;
   gone_stays = λ e. e;
-  unmade-unsent = λ e. refl;
-  gone-unsent = λ e. refl;
+  unmade_unsent = λ e. refl;
+  gone_unsent = λ e. refl;
   waits_on = λ packet e f. e;
-  sent-flies = λ packet e t f. absurd (true≢false (sym t));
+  sent_flies = λ packet e t f. absurd (true≢false (sym t));
   acked_gone = λ packet e t. absurd (true≢false (sym t));
   flies_on = λ packet e f. e;
   named_gone = λ packet e t. absurd (true≢false (sym t ∙ unnamed e.1));
 }
 
 -- a send tells it
-told-later : (packet : List ℕ) (clock : ℕ) → Later true false false (waits packet) (flies packet clock)
-told-later packet clock = record {
+told_later : (packet : List ℕ) (clock : ℕ) → Later true false false (waits packet) (flies packet clock)
+told_later packet clock = record {
   unmade_stays = λ e. absurd (true≢false (ap does_wait e));
   gone_stays = λ e. absurd (true≢false (ap does_wait e));
-  unmade-unsent = λ e. absurd (true≢false (ap does_wait e));
-  gone-unsent = λ e. absurd (true≢false (ap does_wait e));
+  unmade_unsent = λ e. absurd (true≢false (ap does_wait e));
+  gone_unsent = λ e. absurd (true≢false (ap does_wait e));
   waits_on = λ other e f. absurd (true≢false f);
-  sent-flies = λ other e t f. (ap packet_in e, refl);
+  sent_flies = λ other e t f. (ap packet_in e, refl);
   acked_gone = λ other e t. absurd (true≢false (sym t));
   flies_on = λ other e f. absurd (true≢false (sym e.1));
   named_gone = λ other e t. absurd (true≢false (sym t));
@@ -104,10 +104,10 @@ flown_later : (named : Bool) (packet : List ℕ) (sent : ℕ) (y : Standing) →
 flown_later named packet sent y on off = record {
   unmade_stays = λ e. absurd (true≢false (ap does_fly e));
   gone_stays = λ e. absurd (true≢false (ap does_fly e));
-  unmade-unsent = λ e. refl;
-  gone-unsent = λ e. refl;
+  unmade_unsent = λ e. refl;
+  gone_unsent = λ e. refl;
   waits_on = λ other e f. absurd (true≢false (ap does_fly e));
-  sent-flies = λ other e t f. absurd (true≢false (sym t));
+  sent_flies = λ other e t f. absurd (true≢false (sym t));
   acked_gone = λ other e t. absurd (true≢false (sym t));
   flies_on = λ other e f. ((on f).0 ∙ e.0, (on f).1);
   named_gone = λ other e t. off t;
@@ -120,18 +120,18 @@ sent_other told clock n (waits packet) f = rw f
 sent_other told clock n (flies packet sent) f = refl
 sent_other told clock n gone f = refl
 
-pub sent-later : (told clock n : ℕ) (packet : List ℕ) (x : Standing) → (n ≡ told → x ≡ waits packet) → Later (eqb n told) false false x (sent_as told clock n x)
-sent-later told clock n packet x was =
+pub sent_later : (told clock n : ℕ) (packet : List ℕ) (x : Standing) → (n ≡ told → x ≡ waits packet) → Later (eqb n told) false false x (sent_as told clock n x)
+sent_later told clock n packet x was =
     by_bool (eqb n told)
-    (λ t. rw (was (eqb-true n told t), t) (told-later packet clock))
+    (λ t. rw (was (eqb-true n told t), t) (told_later packet clock))
     (λ f. rw (sent_other told clock n x f, f) (later_same false x (λ _. refl)))
 
-pub resent-later : (p : ℕ → Bool) (clock n : ℕ) (x : Standing) → Later false false false x (resent_as p clock n x)
-resent-later p clock n unmade = later_same false unmade (λ _. refl)
-resent-later p clock n (waits packet) = later_same false (waits packet) (λ _. refl)
-resent-later p clock n (flies packet sent) =
+pub resent_later : (p : ℕ → Bool) (clock n : ℕ) (x : Standing) → Later false false false x (resent_as p clock n x)
+resent_later p clock n unmade = later_same false unmade (λ _. refl)
+resent_later p clock n (waits packet) = later_same false (waits packet) (λ _. refl)
+resent_later p clock n (flies packet sent) =
     flown_later false packet sent _ (λ _. by_bool (p n) (λ t. rw t (refl, refl)) (λ f. rw f (refl, refl))) (λ t. absurd (true≢false (sym t)))
-resent-later p clock n gone = later_same false gone (λ _. refl)
+resent_later p clock n gone = later_same false gone (λ _. refl)
 
 pub acked_later : (through : ℕ) (nacks : List ℕ) (n : ℕ) (x : Standing) → Later false (is_named through nacks n) false x (acked_as through nacks n x)
 acked_later through nacks n unmade = later_same (is_named through nacks n) unmade (λ e. absurd (true≢false (sym e)))

@@ -14,7 +14,7 @@ Happens run earlier e later = history_of run ≡ earlier ++ (e ∷ later)
 -- the packet that earlier events made under a number stands at the front of an output, as long as the answer says; what is behind it stays
 pub record AsMade (run : Run) (earlier : List Event) (n size : ℕ) (output left : List ℕ) : Type 0 where
   pub packet : List ℕ
-  pub was-made : made_in run.chunk n earlier ≡ some packet
+  pub was_made : made_in run.chunk n earlier ≡ some packet
   pub size_is : size ≡ length packet
   pub left_is : left ≡ packet at_front_of output
 
@@ -30,7 +30,7 @@ pub record FetchLeaves (run : Run) (earlier : List Event) (e : Event) (output gi
   pub number : ℕ
   pub size : ℕ
   pub given_is : given ≡ size ∷ []
-  pub was-sent : sent_in number earlier ≡ true
+  pub was_sent : sent_in number earlier ≡ true
   pub not_acked : acked_in number earlier ≡ false
   pub as_made : AsMade run earlier number size output e.output
 

@@ -84,13 +84,13 @@ pub record Remembers (run : Run) : Type 0 where
   -- the state and the store at the end belong together, and the sizes are those of the start
   pub sound : Sound (end_of run).state (end_of run).store
   pub store_length : length (end_of run).store ≡ length run.store
-  pub chunk-is : (end_of run).state.chunk ≡ run.chunk
-  pub count-is : (end_of run).state.count ≡ run.count
+  pub chunk_is : (end_of run).state.chunk ≡ run.chunk
+  pub count_is : (end_of run).state.count ≡ run.count
   -- no call was refused with 11 or with 10 for the sender
   pub never_11_or_10 : all_fair (history_of run) ≡ true
   -- the numbers that were made are those from the first one up to next
   pub made_range : (n : ℕ) (packet : List ℕ) → made run n ≡ some packet → (run.first.0 ≤ n) × (n < (end_of run).state.next.0)
-  pub unmade-is : (n : ℕ) → run.first.0 ≤ n → made run n ≡ none → standing_of run n ≡ unmade
+  pub unmade_is : (n : ℕ) → run.first.0 ≤ n → made run n ≡ none → standing_of run n ≡ unmade
   -- what was made waits as it was made until a send tells it,
   pub waits_until_sent : (n : ℕ) (packet : List ℕ) → made run n ≡ some packet → sent_in n (history_of run) ≡ false → standing_of run n ≡ waits packet
   -- then flies as it was made until acks that come later name it,
@@ -101,5 +101,5 @@ pub record Remembers (run : Run) : Type 0 where
   -- and what waits or flies was made so
   pub as_made : (n : ℕ) (packet : List ℕ) → packet_in (standing_of run n) ≡ some packet → made run n ≡ some packet
   -- a send tells no number that was not made
-  pub sent-made : (n : ℕ) → made run n ≡ none → sent_in n (history_of run) ≡ false
-  pub below-first : (n : ℕ) → n < run.first.0 → standing_of run n ≡ gone
+  pub sent_made : (n : ℕ) → made run n ≡ none → sent_in n (history_of run) ≡ false
+  pub below_first : (n : ℕ) → n < run.first.0 → standing_of run n ≡ gone

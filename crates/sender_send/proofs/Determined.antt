@@ -4,7 +4,7 @@ use mathlib.Core.Path.{◌≡◌, ap}
 use mathlib.Core.List.{List}
 use native.Mathlib.Omega.{arith}
 use Rattle.terms.proofs.Determined.{determined, said_of_one}
-use Rattle.terms.proofs.Numbers.{number-one}
+use Rattle.terms.proofs.Numbers.{number_one}
 use Rattle.terms.specs.declared.Given.{Given}
 use Rattle.sender_state.specs.Answers.{Outcome}
 use Rattle.sender_state.specs.declared.Sender.{Sender}
@@ -21,17 +21,17 @@ fetch_determined s rank store output a b x y p q =
     (said_of_one a b (ap (λ (o : Fetches). o.says) e), ap (λ (o : Fetches). o.output) e)
 
 -- document 01's number and values leave one answer
-pub sent-one : (a b : Departure) → said_sent a ≡ said_sent b → a ≡ b
-sent-one (D.Packet m n) (D.Packet x y) e =
+pub sent_one : (a b : Departure) → said_sent a ≡ said_sent b → a ≡ b
+sent_one (D.Packet m n) (D.Packet x y) e =
     let p : m.0 ≡ x.0 = cc in
     let q : n ≡ y = cc in
     λ k. D.Packet (record { 0 = p k }) (q k)
-sent-one (D.Packet m n) (D.Refused y) e = let z : ◌≡◌ {A = ℕ} 0 1 = cc in absurd (omega arith)
-sent-one (D.Refused x) (D.Packet m n) e = let z : ◌≡◌ {A = ℕ} 0 1 = cc in absurd (omega arith)
-sent-one (D.Refused x) (D.Refused y) e = ap D.Refused (number-one x y (cc))
+sent_one (D.Packet m n) (D.Refused y) e = let z : ◌≡◌ {A = ℕ} 0 1 = cc in absurd (omega arith)
+sent_one (D.Refused x) (D.Packet m n) e = let z : ◌≡◌ {A = ℕ} 0 1 = cc in absurd (omega arith)
+sent_one (D.Refused x) (D.Refused y) e = ap D.Refused (number_one x y (cc))
 
 pub send_determined : (s : Sender) (clock : ℕ) (store output : List ℕ) (a b : Sent) (x y : List ℕ)
     → sent_out a x ≡ send_of s clock store output → sent_out b y ≡ send_of s clock store output → (a ≡ b) × (x ≡ y)
 send_determined s clock store output a b x y p q =
     let e = determined p q in
-    (λ k. record { answer = sent-one a.answer b.answer (ap (λ (o : Outcome). o.says) e) k; state = (e k).state }, ap (λ (o : Outcome). o.lent) e)
+    (λ k. record { answer = sent_one a.answer b.answer (ap (λ (o : Outcome). o.says) e) k; state = (e k).state }, ap (λ (o : Outcome). o.lent) e)

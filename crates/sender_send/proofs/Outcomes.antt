@@ -25,11 +25,11 @@ use Rattle.sender_send.specs.declared.Departure.TheVariants as D
 
 -- what fetch leaves, once the answer is known
 module _ (s : Sender) (rank : ℕ) (store output : List ℕ) where
-  pub fetch-made : (size place : ℕ) → fetch_said s rank (length store) (length output) ≡ values (size_of s (in_flight s ! rank) ∷ []) → size ≡ size_of s (in_flight s ! rank)
+  pub fetch_made : (size place : ℕ) → fetch_said s rank (length store) (length output) ≡ values (size_of s (in_flight s ! rank) ∷ []) → size ≡ size_of s (in_flight s ! rank)
       → place ≡ place_of s.numbers (in_flight s ! rank) → (after : List ℕ) → after ≡ bytes_at s.chunk place size store at_front_of output
       → ◌≡◌ {A = Fetches} (record { says = values (size ∷ []); output = after }) (fetch_of s rank store output)
   unfolding fetch_of
-  fetch-made size place e f g after h = rw (h, f, g) (simp e)
+  fetch_made size place e f g after h = rw (h, f, g) (simp e)
 
 -- what holds where a packet leaves
 pub record Leaves (s : Sender) (clock store_length room : ℕ) (given : List ℕ) : Type 0 where
@@ -39,7 +39,7 @@ pub record Leaves (s : Sender) (clock store_length room : ℕ) (given : List ℕ
   pub clock_most : clock ≤ 1000000000000000
   pub some : 0 < length (waiting s)
   pub open_window : count_of 2 s.marks < s.window
-  pub room-is : size_of s (waiting s ! 0) ≤ room
+  pub room_is : size_of s (waiting s ! 0) ≤ room
   pub is : values ((waiting s ! 0) ∷ size_of s (waiting s ! 0) ∷ []) ≡ values given
 
 pub leaves : (s : Sender) (clock store_length room : ℕ) (given : List ℕ) → send_said s clock store_length room ≡ values given → Leaves s clock store_length room given
@@ -59,15 +59,15 @@ leaves s clock store_length room given h =
       clock_most = fair.1;
       some = leb-false _ _ p17.0;
       open_window = leb-false _ _ p22.0;
-      room-is = ltb-false _ _ p7.0;
+      room_is = ltb-false _ _ p7.0;
       is = p7.1;
     }
 
 -- what send leaves, once the answer is known
 module _ (s : Sender) (clock : ℕ) (store output : List ℕ) where
-  pub send-refused : (n : ℕ) → send_said s clock (length store) (length output) ≡ refusal n → send_of s clock store output ≡ record { says = refusal n; state = s; lent = output }
+  pub send_refused : (n : ℕ) → send_said s clock (length store) (length output) ≡ refusal n → send_of s clock store output ≡ record { says = refusal n; state = s; lent = output }
   unfolding send_of
-  send-refused n e = simp e
+  send_refused n e = simp e
 
   pub send_done : (given : List ℕ) → send_said s clock (length store) (length output) ≡ values given
       → send_of s clock store output ≡ record { says = values given; state = departed s clock; lent = stored_packet s store (waiting s ! 0) at_front_of output }
@@ -75,12 +75,12 @@ module _ (s : Sender) (clock : ℕ) (store output : List ℕ) where
   send_done given e = simp e
 
   module _ (answer : Departure) (judged : said_sent answer ≡ send_said s clock (length store) (length output)) where
-    pub send-kept : (why : Refusal) → answer ≡ D.Refused why → ◌≡◌ {A = Outcome} (record { says = said_sent answer; state = s; lent = output }) (send_of s clock store output)
-    send-kept why is = rw is (sym (send-refused (number_of why) (sym judged ∙ ap said_sent is)))
+    pub send_kept : (why : Refusal) → answer ≡ D.Refused why → ◌≡◌ {A = Outcome} (record { says = said_sent answer; state = s; lent = output }) (send_of s clock store output)
+    send_kept why is = rw is (sym (send_refused (number_of why) (sym judged ∙ ap said_sent is)))
 
-  pub send-made : (number size place : ℕ) → send_said s clock (length store) (length output) ≡ values (number ∷ size ∷ []) → number ≡ waiting s ! 0
+  pub send_made : (number size place : ℕ) → send_said s clock (length store) (length output) ≡ values (number ∷ size ∷ []) → number ≡ waiting s ! 0
       → size ≡ size_of s (waiting s ! 0) → place ≡ place_of s.numbers (waiting s ! 0)
       → (after : List ℕ) → after ≡ bytes_at s.chunk place size store at_front_of output
       → (state : Sender) → state ≡ moved s place clock (armed s.timer (clock + rto_of s.timing))
       → ◌≡◌ {A = Outcome} (record { says = values (number ∷ size ∷ []); state = state; lent = after }) (send_of s clock store output)
-  send-made number size place e n z p after a state t = rw (t, a, p, z) (sym (send_done (number ∷ size_of s (waiting s ! 0) ∷ []) (e ∙ rw z)))
+  send_made number size place e n z p after a state t = rw (t, a, p, z) (sym (send_done (number ∷ size_of s (waiting s ! 0) ∷ []) (e ∙ rw z)))

@@ -15,7 +15,7 @@ use Rattle.sender_state.specs.Table.{◌!◌, place_of}
 use Rattle.sender_state.specs.declared.Sender.{Sender}
 use Rattle.sender_state.specs.Numbers.{run, numbers_where, marked_with}
 use Rattle.sender_send.specs.Steps.{at_rank}
-use Rattle.sender_state.proofs.Runs.{beyond, get_d_any, run_passes, run-below}
+use Rattle.sender_state.proofs.Runs.{beyond, get_d_any, run_passes, run_below}
 use Rattle.sender_state.proofs.Search.{place_is, Ahead, ahead}
 
 -- the element at a rank, from what is left
@@ -70,7 +70,7 @@ module _ (numbers : List ℕ) (next : ℕ) (p : ℕ → Bool) (width : next ≤ 
   rank_missing rank e =
       case
       (λ (q : rank < length (numbers_where numbers next p)).
-      absurd (omega (arith, run-below (λ n. p (place_of numbers n)) next 0 rank q, get_d_any (numbers_where numbers next p) rank 0 4294967295 q, e)))
+      absurd (omega (arith, run_below (λ n. p (place_of numbers n)) next 0 rank q, get_d_any (numbers_where numbers next p) rank 0 4294967295 q, e)))
       (λ (q : rank < length (numbers_where numbers next p) → ⊥). omega arith)
       (dec_lt rank (length (numbers_where numbers next p)))
 
@@ -111,5 +111,5 @@ pub ranked_of : (s : Sender) (row : length s.numbers ≡ 192) (table : length s.
     → Ranked s row table width wanted rank (numbers_where s.numbers s.next.0 (marked_with wanted s.marks) ! rank)
 ranked_of s row table width wanted rank h q =
     let l = numbers_where s.numbers s.next.0 (marked_with wanted s.marks) in
-    let b = run-below (λ n. marked_with wanted s.marks (place_of s.numbers n)) s.next.0 0 rank q in
+    let b = run_below (λ n. marked_with wanted s.marks (place_of s.numbers n)) s.next.0 0 rank q in
     ranked_there s row table width wanted rank (l ! rank) h (get_d_any l rank 0 4294967295 q) (λ e. omega arith)

@@ -5,7 +5,7 @@ use mathlib.Core.Bool.{Bool}
 use mathlib.Core.List.{List}
 use lib.ListN.{length}
 use Rattle.terms.specs.declared.SeqNo.{SeqNo}
-use Rattle.terms.proofs.Determined.{determined, said-one}
+use Rattle.terms.proofs.Determined.{determined, said_one}
 use Rattle.terms.specs.Lists.{all}
 use Rattle.sender_state.specs.Steps.{least_of}
 use Rattle.sender_state.specs.Table.{differs, count_of, place_of}
@@ -14,7 +14,7 @@ use Rattle.sender_state.specs.Answers.{Outcome, said_tally}
 use Rattle.sender_state.specs.Start.{start_of, started}
 use Rattle.sender_state.specs.declared.Started.{Started}
 use native.Mathlib.Omega.{arith}
-use Rattle.terms.proofs.Numbers.{number-one}
+use Rattle.terms.proofs.Numbers.{number_one}
 use Rattle.sender_state.specs.declared.Tally.{Tally}
 use Rattle.sender_state.specs.declared.Tally.TheVariants as Y
 
@@ -22,7 +22,7 @@ pub start_determined : (first : SeqNo) (chunk count : ℕ) (store : List ℕ) (a
     → started b ≡ start_of first chunk count (length store) → a ≡ b
 start_determined first chunk count store a b p q =
     let e = determined p q in
-    λ k. record { answer = said-one a.answer b.answer (ap (λ (o : Outcome). o.says) e) k; state = (e k).state }
+    λ k. record { answer = said_one a.answer b.answer (ap (λ (o : Outcome). o.says) e) k; state = (e k).state }
 
 pub counts_fit_determined : (chunk count : ℕ) (a b : Bool) → a ≡ counts_fit chunk count → b ≡ counts_fit chunk count → a ≡ b
 counts_fit_determined chunk count a b p q = determined p q
@@ -47,7 +47,7 @@ pub tally_one : (a b : Tally) → said_tally a ≡ said_tally b → a ≡ b
 tally_one (Y.Count m) (Y.Count n) e = ap Y.Count (cc)
 tally_one (Y.Count m) (Y.Refused y) e = let z : ◌≡◌ {A = ℕ} 0 1 = cc in absurd (omega arith)
 tally_one (Y.Refused x) (Y.Count n) e = let z : ◌≡◌ {A = ℕ} 0 1 = cc in absurd (omega arith)
-tally_one (Y.Refused x) (Y.Refused y) e = ap Y.Refused (number-one x y (cc))
+tally_one (Y.Refused x) (Y.Refused y) e = ap Y.Refused (number_one x y (cc))
 
 pub clock_wrong_determined : (last clock : ℕ) (a b : Bool) → a ≡ clock_wrong last clock → b ≡ clock_wrong last clock → a ≡ b
 clock_wrong_determined last clock a b p q = determined p q

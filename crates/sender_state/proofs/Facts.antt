@@ -43,17 +43,17 @@ pub record Ruled (s : Sender) : Type 0 where
   pub low : (i : ℕ) → i < length s.marks → (s.marks ! i ≡ 0 → ⊥) → s.numbers ! i < s.next.0
   pub order : (i j : ℕ) → i < length s.marks → j < length s.marks → s.marks ! i ≡ 2 → s.marks ! j ≡ 1 → s.numbers ! i < s.numbers ! j
   pub some : (i : ℕ) → i < length s.marks → (s.marks ! i ≡ 0 → ⊥) → 1 ≤ s.numbers ! i
-  pub next-some : 1 ≤ s.next.0
+  pub next_some : 1 ≤ s.next.0
   pub shut : (i : ℕ) → i < length s.marks → s.count ≤ i → s.marks ! i ≡ 0
   pub no_number : (i : ℕ) → i < length s.marks → s.marks ! i ≡ 0 → s.numbers ! i ≡ 0
   pub no_length : (i : ℕ) → i < length s.marks → s.marks ! i ≡ 0 → s.lengths ! i ≡ 0
   pub no_time : (i : ℕ) → i < length s.marks → s.marks ! i ≡ 0 → s.sent ! i ≡ 0
   pub no_resent : (i : ℕ) → i < length s.marks → s.marks ! i ≡ 0 → s.resent ! i ≡ 0
-  pub not-sent : (i : ℕ) → i < length s.marks → s.marks ! i ≡ 1 → s.sent ! i ≡ 0
+  pub not_sent : (i : ℕ) → i < length s.marks → s.marks ! i ≡ 1 → s.sent ! i ≡ 0
   pub few : count_of 2 s.marks ≤ 128
   pub past : (i : ℕ) → i < length s.marks → s.sent ! i ≤ s.clock
   pub due : timer_fits s.timer s.clock ≡ true
-  pub window-some : 1 ≤ s.window
+  pub window_some : 1 ≤ s.window
   pub window_most : s.window ≤ 128
   pub timing : timing_fits s.timing ≡ true
   pub long : (i : ℕ) → i < length s.marks → (s.marks ! i ≡ 0 → ⊥) → 22 ≤ s.lengths ! i
@@ -120,17 +120,17 @@ module _ (s : Sender) where
             let t = at_each (λ j. below_waiting (at i)) (at_each (λ i p. each_place s (λ j. below_waiting p)) r2 i h) j k in
             ltb-true _ _ (unless_at (ltb (numbers ! i) (numbers ! j)) (not (is_flying (m ! i) && is_waiting (m ! j))) t (rw (eq-eqb _ _ a, eq-eqb _ _ b)));
         some = λ i h n. leb-true _ _ (unless_at (leb 1 (numbers ! i)) (is_free (m ! i)) (at_each (λ i. some_number) r3 i h) (ne_eqb _ _ n));
-        next-some = leb-true _ _ (and_left (leb 1 s.next.0) _ h4);
+        next_some = leb-true _ _ (and_left (leb 1 s.next.0) _ h4);
         shut = λ i h a. eqb-true _ _ (unless_at (is_free (m ! i)) (ltb i s.count) (at_each (free_from s.count) r5 i h) (le-ltb _ _ a));
         no_number = λ i h z. eqb-true _ _ (and_left (eqb (numbers ! i) 0) _ (vacant i h z));
         no_length = λ i h z. eqb-true _ _ (and_left (eqb (s.lengths ! i) 0) _ (and_right (eqb (numbers ! i) 0) _ (vacant i h z)));
         no_time = λ i h z. eqb-true _ _ (and_left (eqb (s.sent ! i) 0) _ (timeless i h z));
         no_resent = λ i h z. eqb-true _ _ (and_right (eqb (s.sent ! i) 0) (eqb (s.resent ! i) 0) (timeless i h z));
-        not-sent = λ i h w. eqb-true _ _ (unless_at (eqb (s.sent ! i) 0) (not (is_waiting (m ! i))) (at_each (λ i. unsent) r7 i h) (rw (eq-eqb _ _ w)));
+        not_sent = λ i h w. eqb-true _ _ (unless_at (eqb (s.sent ! i) 0) (not (is_waiting (m ! i))) (at_each (λ i. unsent) r7 i h) (rw (eq-eqb _ _ w)));
         few = leb-true _ _ (and_left (leb (count_of 2 m) 128) _ h8);
         past = λ i h. leb-true _ _ (at_each (λ i. sent_in_time s.clock) r9 i h);
         due = and_left (timer_fits s.timer s.clock) _ h10;
-        window-some = leb-true _ _ (and_left (leb 1 s.window) _ h11);
+        window_some = leb-true _ _ (and_left (leb 1 s.window) _ h11);
         window_most = leb-true _ _ (and_left (leb s.window 128) _ h12);
         timing = and_left (timing_fits s.timing) _ h13;
         long = λ i h n. leb-true _ _ (and_left (leb 22 (s.lengths ! i)) _ (within i h n));
@@ -168,7 +168,7 @@ module _ (s : Sender) where
       lt-ltb _ _ (r.order i j h k (eqb-true _ _ (and_left (is_flying (m ! i)) _ t)) (eqb-true _ _ (and_right (is_flying (m ! i)) (is_waiting (m ! j)) t)))))))
       (and_both (each_place s (λ i. some_number)) _
       (of_each (λ i. some_number) (λ i h. or_of (is_free (m ! i)) _ (λ e. le-leb _ _ (r.some i h (eqb-false _ _ e)))))
-      (and_both (leb 1 s.next.0) _ (le-leb _ _ r.next-some)
+      (and_both (leb 1 s.next.0) _ (le-leb _ _ r.next_some)
       (and_both (each_place s (free_from s.count)) _
       (of_each (free_from s.count) (λ i h. or_of (ltb i s.count) _ (λ e. eq-eqb _ _ (r.shut i h (ltb-false _ _ e)))))
       (and_both (each_place s (λ i. empty_where_free)) _
@@ -180,11 +180,11 @@ module _ (s : Sender) where
       (and_both (eqb (s.lengths ! i) 0) _ (eq-eqb _ _ (r.no_length i h z))
       (and_both (eqb (s.sent ! i) 0) (eqb (s.resent ! i) 0) (eq-eqb _ _ (r.no_time i h z)) (eq-eqb _ _ (r.no_resent i h z)))))))
       (and_both (each_place s (λ i. unsent)) _
-      (of_each (λ i. unsent) (λ i h. or_of (not (is_waiting (m ! i))) _ (λ e. eq-eqb _ _ (r.not-sent i h (eqb-true (m ! i) 1 (not-false (is_waiting (m ! i)) e))))))
+      (of_each (λ i. unsent) (λ i h. or_of (not (is_waiting (m ! i))) _ (λ e. eq-eqb _ _ (r.not_sent i h (eqb-true (m ! i) 1 (not-false (is_waiting (m ! i)) e))))))
       (and_both (leb (count_of 2 m) 128) _ (le-leb _ _ r.few)
       (and_both (each_place s (λ i. sent_in_time s.clock)) _ (of_each (λ i. sent_in_time s.clock) (λ i h. le-leb _ _ (r.past i h)))
       (and_both (timer_fits s.timer s.clock) _ r.due
-      (and_both (leb 1 s.window) _ (le-leb _ _ r.window-some)
+      (and_both (leb 1 s.window) _ (le-leb _ _ r.window_some)
       (and_both (leb s.window 128) _ (le-leb _ _ r.window_most)
       (and_both (timing_fits s.timing) _ r.timing
       (and_both (each_place s (λ i. length_within s.chunk)) _
@@ -196,9 +196,9 @@ module _ (s : Sender) where
       (of_each (λ i. known_values) (λ i h. and_both (leb (m ! i) 2) (leb (s.resent ! i) 1) (le-leb _ _ (r.known i h)) (le-leb _ _ (r.once_or_more i h))))))))))))))))))))
 
 pub record Counted (chunk count : ℕ) : Type 0 where
-  pub chunk-some : 1 ≤ chunk
+  pub chunk_some : 1 ≤ chunk
   pub chunk_most : chunk ≤ 1812
-  pub count-some : 1 ≤ count
+  pub count_some : 1 ≤ count
   pub count_most : count ≤ 192
 
 pub counted : (chunk count : ℕ) → counts_fit chunk count ≡ true → Counted chunk count
@@ -207,9 +207,9 @@ counted chunk count h =
     let h1 = and_right (leb 1 chunk) _ h in
     let h2 = and_right (leb chunk 1812) _ h1 in
     record {
-      chunk-some = leb-true _ _ (and_left (leb 1 chunk) _ h);
+      chunk_some = leb-true _ _ (and_left (leb 1 chunk) _ h);
       chunk_most = leb-true _ _ (and_left (leb chunk 1812) _ h1);
-      count-some = leb-true _ _ (and_left (leb 1 count) _ h2);
+      count_some = leb-true _ _ (and_left (leb 1 count) _ h2);
       count_most = leb-true _ _ (and_right (leb 1 count) (leb count 192) h2);
     }
 

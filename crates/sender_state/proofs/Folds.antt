@@ -16,12 +16,12 @@ use Rattle.sender_state.specs.Steps.{candidate_of, least_of}
 use Rattle.sender_state.specs.Table.{◌!◌, one_if, count_of, place_of}
 
 -- how many are equal to x
-pub count-append : (x : ℕ) (a b : List ℕ) → count_of x (a ++ b) ≡ count_of x a + count_of x b
-count-append x [] b = sym (zero-add (count_of x b))
-count-append x (y ∷ a) b = rw (count-append x a b) (omega arith)
+pub count_append : (x : ℕ) (a b : List ℕ) → count_of x (a ++ b) ≡ count_of x a + count_of x b
+count_append x [] b = sym (zero-add (count_of x b))
+count_append x (y ∷ a) b = rw (count_append x a b) (omega arith)
 
 pub count_more : (x : ℕ) (l : List ℕ) (i : ℕ) → i < length l → count_of x (take (i + 1) l) ≡ count_of x (take i l) + one_if (eqb (get_or l i 0) x)
-count_more x l i h = rw (add-one, take-suc l i 0 h, count-append) (omega arith)
+count_more x l i h = rw (add-one, take-suc l i 0 h, count_append) (omega arith)
 
 -- the place of a number: not yet found among the first i
 pub place_next : (l : List ℕ) (n i : ℕ) → i < length l → (get_or l i 0 ≡ n → ⊥) → place_of l n ≡ i + place_of (drop i l) n → place_of l n ≡ i + 1 + place_of (drop (i + 1) l) n

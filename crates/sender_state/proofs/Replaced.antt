@@ -14,10 +14,10 @@ use Rattle.sender_state.specs.Table.{◌!◌, replaced}
 
 -- a list with a value in some places
 module _ (value : ℕ) (p : ℕ → Bool) where
-  pub replaced-length : (i : ℕ) (l : List ℕ) → length (replaced value p i l) ≡ length l
+  pub replaced_length : (i : ℕ) (l : List ℕ) → length (replaced value p i l) ≡ length l
   unfolding replaced
-  replaced-length i [] = refl
-  replaced-length i (x ∷ l) = ap suc (replaced-length (suc i) l)
+  replaced_length i [] = refl
+  replaced_length i (x ∷ l) = ap suc (replaced_length (suc i) l)
 
   replaced_from : (i : ℕ) (l : List ℕ) (k : ℕ) → k < length l → replaced value p i l ! k ≡ (value when p (i + k) else (l ! k))
   unfolding replaced
@@ -52,5 +52,5 @@ module _ (value : ℕ) (p : ℕ → Bool) where
 
   pub replace_end : (old now : List ℕ) (i : ℕ) → Replacing old now i → length old ≡ 192 → 192 ≤ i → now ≡ replaced value p 0 old
   replace_end old now i r h b =
-      ext_get_or 0 now (replaced value p 0 old) (r.long ∙ sym h ∙ sym (replaced-length 0 old))
+      ext_get_or 0 now (replaced value p 0 old) (r.long ∙ sym h ∙ sym (replaced_length 0 old))
       (λ k a. r.done k (omega (arith, r.long)) ∙ sym (replaced_at old k (omega (arith, r.long))))

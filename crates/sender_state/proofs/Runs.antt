@@ -50,9 +50,9 @@ module _ (p : ℕ → Bool) where
       (λ (q : from < next → ⊥). let e : next - from ≡ 0 = omega arith in rw e)
       (dec_lt from next)
 
-  pub run-head : (n next : ℕ) → n < next → p n ≡ true → run p n (next - n) ≡ n ∷ run p (n + 1) (next - (n + 1))
+  pub run_head : (n next : ℕ) → n < next → p n ≡ true → run p n (next - n) ≡ n ∷ run p (n + 1) (next - (n + 1))
   unfolding run
-  run-head n next h t =
+  run_head n next h t =
       let e : next - n ≡ suc (next - (n + 1)) = omega arith in
       rw (e, t, add-one)
 
@@ -69,11 +69,11 @@ module _ (p : ℕ → Bool) where
   run_passes zero from k h = absurd (not-suc-le-zero h)
   run_passes (suc count) from k h = both (λ n. p n ≡ true) (p from) from (run p (suc from) count) k (λ e. e) (λ k h. run_passes count (suc from) k h) h
 
-  pub run-below : (count from k : ℕ) → k < length (run p from count) → run p from count ! k < from + count
+  pub run_below : (count from k : ℕ) → k < length (run p from count) → run p from count ! k < from + count
   unfolding run
-  run-below zero from k h = absurd (not-suc-le-zero h)
-  run-below (suc count) from k h =
-      both (λ n. n < from + suc count) (p from) from (run p (suc from) count) k (λ e. omega arith) (λ k h. omega (arith, run-below count (suc from) k h)) h
+  run_below zero from k h = absurd (not-suc-le-zero h)
+  run_below (suc count) from k h =
+      both (λ n. n < from + suc count) (p from) from (run p (suc from) count) k (λ e. omega arith) (λ k h. omega (arith, run_below count (suc from) k h)) h
 
 -- a number is in a run where it passes and lies within it, and else not
 module _ (p : ℕ → Bool) (n : ℕ) where
@@ -92,14 +92,14 @@ module _ (p : ℕ → Bool) (n : ℕ) where
   pub not_in : (count from : ℕ) → (p n ≡ true → n < from + count → ⊥) → all (differs n) (run p from count) ≡ true
   not_in count from f =
       all_of (differs n) (run p from count)
-      (λ k h. rw (ne_eqb (run p from count ! k) n (λ e. f (sym (ap p e) ∙ run_passes p count from k h) (omega (arith, run-below p count from k h)))))
+      (λ k h. rw (ne_eqb (run p from count ! k) n (λ e. f (sym (ap p e) ∙ run_passes p count from k h) (omega (arith, run_below p count from k h)))))
 
 -- a run in two parts
-pub run-append : (p : ℕ → Bool) (a from b : ℕ) → run p from (a + b) ≡ run p from a ++ run p (from + a) b
+pub run_append : (p : ℕ → Bool) (a from b : ℕ) → run p from (a + b) ≡ run p from a ++ run p (from + a) b
 unfolding run
-run-append p zero from b = rw (zero-add, add-zero)
-run-append p (suc a) from b =
-    rw (suc-add a b, run-append p a (suc from) b)
+run_append p zero from b = rw (zero-add, add-zero)
+run_append p (suc a) from b =
+    rw (suc-add a b, run_append p a (suc from) b)
     (ap (λ (k : ℕ). (from ∷ (run p (suc from) a ++ run p k b)) when p from else (run p (suc from) a ++ run p k b)) (omega arith) ∙ joins (p from))
   where
     joins : (t : Bool) → ((from ∷ (run p (suc from) a ++ run p (from + suc a) b)) when t else (run p (suc from) a ++ run p (from + suc a) b))

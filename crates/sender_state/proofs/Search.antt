@@ -13,7 +13,7 @@ use Rattle.sender_state.specs.Steps.{candidate_of, least_of, Tidy}
 use Rattle.sender_state.specs.Table.{◌!◌, place_of}
 use Rattle.sender_state.specs.declared.Sender.{Sender}
 use Rattle.sender_state.proofs.Folds.{least_at, least_there, least_most}
-use Rattle.sender_state.proofs.Runs.{beyond, run_from, run_none, run-head}
+use Rattle.sender_state.proofs.Runs.{beyond, run_from, run_none, run_head}
 use Rattle.sender_state.proofs.Facts.{Ruled}
 use Rattle.sender_state.specs.Numbers.{run, marked_with}
 
@@ -96,7 +96,7 @@ module _ (numbers marks : List ℕ) (wanted next : ℕ) (tidy : Tidy numbers mar
       record {
         most = least_most numbers marks wanted from 192;
         none = λ e. run_none bears from next (λ m x y. unseen from m x (omega (arith, tidy.width)));
-        more = λ h. run_from bears from low next (there h).2 (omega (arith, (there h).0)) (unseen from) ∙ run-head bears low next (there h).0 (there h).1;
+        more = λ h. run_from bears from low next (there h).2 (omega (arith, (there h).0)) (unseen from) ∙ run_head bears low next (there h).0 (there h).1;
         below = λ h. (there h).0;
         passes = λ h. (there h).1;
       }

@@ -24,7 +24,7 @@ use Rattle.receiver_ack.specs.Missing.{missing_from}
 use Rattle.receiver_ack.specs.Fields.{at_least255, fields_from, nacks_from, ack_fields_of, ack_nacks_of}
 use Rattle.receiver_ack.specs.Acknowledge.{acked_fields}
 use Rattle.receiver_ack.specs.declared.AckFields.{AckFields}
-use Rattle.receiver_ack.proofs.Ways.{fields_by, packet_most, packet-written, nacks_few}
+use Rattle.receiver_ack.proofs.Ways.{fields_by, packet_most, packet_written, nacks_few}
 use Rattle.sender_state.specs.Table.{count_of}
 use Rattle.sender_state.specs.Rules.{rules, sizes_fit}
 use Rattle.sender_state.specs.Answers.{Outcome, said_tally}
@@ -57,12 +57,12 @@ module _ (acks : AckFields) (nacks : List ℕ) (k : Acking acks nacks) (send rec
   chunk_most : length (acked_packet acks nacks send recv number payload) ≤ 1044 + length payload
   chunk_most = rw fields_are (packet_most acks.ack_through.0 send recv number nacks payload k.choked k.few)
 
-  chunk-written : (room : ℕ) → length payload ≤ 1812 → 1044 + length payload ≤ room
+  chunk_written : (room : ℕ) → length payload ≤ 1812 → 1044 + length payload ≤ room
       → write_of (acked_fields acks send recv number) nacks [] [] payload room ≡ written (length (acked_packet acks nacks send recv number payload)) 0
-  chunk-written room short enough =
+  chunk_written room short enough =
       let most = chunk_most in
       ap (λ (f : Fields). write_of f nacks [] [] payload room) fields_are
-      ∙ packet-written acks.ack_through.0 send recv number nacks payload k.choked room k.few (omega arith)
+      ∙ packet_written acks.ack_through.0 send recv number nacks payload k.choked room k.few (omega arith)
       ∙ rw (← fields_are) (rw (le-ltb room (length (acked_packet acks nacks send recv number payload)) (omega arith)))
 
   -- the writer is lent the store from a place on
@@ -71,19 +71,19 @@ module _ (acks : AckFields) (nacks : List ℕ) (k : Acking acks nacks) (send rec
       (leaves : after ≡ output_after (acked_fields acks send recv number) nacks [] [] payload (take (length store - from) (drop from store))) where
     judged : write_of (acked_fields acks send recv number) nacks [] [] payload (length (take (length store - from) (drop from store)))
         ≡ written (length (acked_packet acks nacks send recv number payload)) 0
-    judged = chunk-written (length (take (length store - from) (drop from store))) short (simp (length-take, length-drop) (omega arith))
+    judged = chunk_written (length (take (length store - from) (drop from store))) short (simp (length-take, length-drop) (omega arith))
 
     pub never_refused : (why : Refusal) → w ≡ W.Refused why → ⊥
     never_refused why e = let s = sym (ap said_writing e) ∙ says ∙ judged in let z : ◌≡◌ {A = ℕ} 0 1 = cc in omega arith
 
-    pub chunk-long : (n at : ℕ) → w ≡ W.Written n at → n ≡ length (acked_packet acks nacks send recv number payload)
-    chunk-long n at e =
+    pub chunk_long : (n at : ℕ) → w ≡ W.Written n at → n ≡ length (acked_packet acks nacks send recv number payload)
+    chunk_long n at e =
         let s = sym (ap said_writing e) ∙ says ∙ judged in
-        let w : ◌≡◌ {A = Written} (record { length-is = n; signature_at = at }) (record { length-is = length (acked_packet acks nacks send recv number payload); signature_at = 0 }) = cc in
-        ap (λ (x : Written). x.length-is) w
+        let w : ◌≡◌ {A = Written} (record { length_is = n; signature_begins = at }) (record { length_is = length (acked_packet acks nacks send recv number payload); signature_begins = 0 }) = cc in
+        ap (λ (x : Written). x.length_is) w
 
-    pub chunk-short : (n at : ℕ) → w ≡ W.Written n at → n ≤ 2856
-    chunk-short n at e = omega (arith, chunk-long n at e, chunk_most)
+    pub chunk_short : (n at : ℕ) → w ≡ W.Written n at → n ≤ 2856
+    chunk_short n at e = omega (arith, chunk_long n at e, chunk_most)
 
     pub chunk_laid : take from store ++ (after ++ drop (length store - from) (drop from store))
         ≡ take from store ++ (acked_packet acks nacks send recv number payload at_front_of drop from store)
@@ -100,8 +100,8 @@ stored_of r send recv acks nacks e f packets bytes s store all g = g ∙ λ k. s
 -- what holds where packets are made
 pub record Made (s : Sender) (r : Receiver) (size store_length : ℕ) (given : List ℕ) : Type 0 where
   pub keeps : rules_of r ≡ true
-  pub size-some : 1 ≤ size
-  pub chunk-some : 1 ≤ s.chunk
+  pub size_some : 1 ≤ size
+  pub chunk_some : 1 ≤ s.chunk
   pub roomy : Roomy s (chunks_of s.chunk size) store_length
   pub gives : given ≡ chunks_of s.chunk size ∷ []
 
@@ -119,8 +119,8 @@ made s r size store_length given h =
     let last = leb-false 4294967295 (s.next.0 + (n - 1)) p20.0 in
     record {
       keeps = and_right (rules s) (rules_of r) (not-false _ p11.0);
-      size-some = (length_fair size p19.0).0;
-      chunk-some = z.counts.chunk-some;
+      size_some = (length_fair size p19.0).0;
+      chunk_some = z.counts.chunk_some;
       roomy = record {
         chunk_most = z.counts.chunk_most;
         count_most = z.counts.count_most;
@@ -134,10 +134,10 @@ made s r size store_length given h =
 -- THE OUTCOME
 
 module _ (s : Sender) (r : Receiver) (send recv : StreamId) (bytes store : List ℕ) (answer : Tally) (judged : said_tally answer ≡ submit_said s r (length bytes) (length store)) where
-  pub submit-kept : (why : Refusal) → answer ≡ Y.Refused why
+  pub submit_kept : (why : Refusal) → answer ≡ Y.Refused why
       → ◌≡◌ {A = Outcome} (record { says = said_tally answer; state = s; lent = store }) (submit_of s r send recv bytes store)
   unfolding submit_of
-  submit-kept why is =
+  submit_kept why is =
       let e : submit_said s r (length bytes) (length store) ≡ refusal (number_of why) = sym judged ∙ ap said_tally is in
       rw is (sym (simp e))
 
@@ -151,7 +151,7 @@ module _ (s : Sender) (r : Receiver) (send recv : StreamId) (bytes store : List 
     pub submit_asks : (rules_of r ≡ true) × Roomy s packets (length store)
     submit_asks = let m = made s r (length bytes) (length store) (packets ∷ []) told in (m.keeps, rw counted at m.roomy)
 
-    pub submit-made : (after : Sender) (left : List ℕ) → ◌≡◌ {A = Stored} (record { state = after; store = left }) (stored_by (data_packet r send recv) packets bytes s store)
+    pub submit_made : (after : Sender) (left : List ℕ) → ◌≡◌ {A = Stored} (record { state = after; store = left }) (stored_by (data_packet r send recv) packets bytes s store)
         → ◌≡◌ {A = Outcome} (record { says = values (packets ∷ []); state = after; lent = left }) (submit_of s r send recv bytes store)
     unfolding submit_of
-    submit-made after left e = ap (λ (x : Stored). record { says = values (packets ∷ []); state = x.state; lent = x.store }) e ∙ sym (simp told (rw counted))
+    submit_made after left e = ap (λ (x : Stored). record { says = values (packets ∷ []); state = x.state; lent = x.store }) e ∙ sym (simp told (rw counted))

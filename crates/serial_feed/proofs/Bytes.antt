@@ -12,8 +12,8 @@ use Rattle.serial_state.specs.Frames.{idle, within, stopped, read_byte}
 pub used_none : {State Given : Type 0} (reading : OneCall State Given) → used_before 0 reading ≡ reading
 used_none reading = let e : 0 + reading.used ≡ reading.used = omega arith in λ k. record { gave = reading.gave; used = e k; state = reading.state }
 
-pub used-one : {State Given : Type 0} (reading : OneCall State Given) → used_before 1 reading ≡ record { gave = reading.gave; used = suc reading.used; state = reading.state }
-used-one reading = let e : 1 + reading.used ≡ suc reading.used = omega arith in λ k. record { gave = reading.gave; used = e k; state = reading.state }
+pub used_one : {State Given : Type 0} (reading : OneCall State Given) → used_before 1 reading ≡ record { gave = reading.gave; used = suc reading.used; state = reading.state }
+used_one reading = let e : 1 + reading.used ≡ suc reading.used = omega arith in λ k. record { gave = reading.gave; used = e k; state = reading.state }
 
 pub used_two : {State Given : Type 0} (reading : OneCall State Given) → used_before 2 reading ≡ record { gave = reading.gave; used = suc (suc reading.used); state = reading.state }
 used_two reading = let e : 2 + reading.used ≡ suc (suc reading.used) = omega arith in λ k. record { gave = reading.gave; used = e k; state = reading.state }
@@ -25,19 +25,19 @@ module _ (room : ℕ) where
   until_stopped (b ∷ rest) = rw (until_stopped rest)
 
   -- fewer bytes than a packet lacks
-  pub within-short : (size : ℕ) (there bytes : List ℕ) → length there + length bytes < size
+  pub within_short : (size : ℕ) (there bytes : List ℕ) → length there + length bytes < size
       → until_given (read_byte room) (within size there) bytes ≡ record { gave = []; used = length bytes; state = within size (there ++ bytes) }
-  within-short size there [] h = rw (append-nil there)
-  within-short size there (b ∷ bytes) h =
+  within_short size there [] h = rw (append-nil there)
+  within_short size there (b ∷ bytes) h =
       let l = length-append there (b ∷ []) in
-      rw (ne_eqb (suc (length there)) size (λ q. omega arith), within-short size (there ++ (b ∷ [])) bytes (omega arith), append_snoc there b bytes)
+      rw (ne_eqb (suc (length there)) size (λ q. omega arith), within_short size (there ++ (b ∷ [])) bytes (omega arith), append_snoc there b bytes)
 
   -- as many, and any others behind them
-  pub within-full : (size : ℕ) (there bytes : List ℕ) (n : ℕ) → length there + n ≡ size → 0 < n → n ≤ length bytes
+  pub within_full : (size : ℕ) (there bytes : List ℕ) (n : ℕ) → length there + n ≡ size → 0 < n → n ≤ length bytes
       → until_given (read_byte room) (within size there) bytes ≡ record { gave = (there ++ take n bytes) ∷ []; used = n; state = idle }
-  within-full size there bytes zero e low high = absurd (omega arith)
-  within-full size there [] (suc n) e low high = absurd (omega arith)
-  within-full size there (b ∷ rest) (suc zero) e low high = rw (eq-eqb (suc (length there)) size (omega arith))
-  within-full size there (b ∷ rest) (suc (suc n)) e low high =
+  within_full size there bytes zero e low high = absurd (omega arith)
+  within_full size there [] (suc n) e low high = absurd (omega arith)
+  within_full size there (b ∷ rest) (suc zero) e low high = rw (eq-eqb (suc (length there)) size (omega arith))
+  within_full size there (b ∷ rest) (suc (suc n)) e low high =
       let l = length-append there (b ∷ []) in
-      rw (ne_eqb (suc (length there)) size (λ q. omega arith), within-full size (there ++ (b ∷ [])) rest (suc n) (omega arith) (omega arith) (omega arith), append_snoc there b (take (suc n) rest))
+      rw (ne_eqb (suc (length there)) size (λ q. omega arith), within_full size (there ++ (b ∷ [])) rest (suc n) (omega arith) (omega arith) (omega arith), append_snoc there b (take (suc n) rest))

@@ -19,7 +19,7 @@ use Rattle.serial_state.specs.Rules.{coming_of, reader_of, line_rules}
 use Rattle.serial_state.specs.declared.LineReader.{LineReader}
 use Rattle.serial_state.proofs.Facts.{Within, in_phase_2, ruled_idle, ruled_half, ruled_within, ruled_stopped, idle_or_half}
 use Rattle.serial_feed.specs.Feed.{Feeds, turned_away, heard_by, feed_of}
-use Rattle.serial_feed.proofs.Bytes.{used_none, used-one, used_two, until_stopped, within-short, within-full}
+use Rattle.serial_feed.proofs.Bytes.{used_none, used_one, used_two, until_stopped, within_short, within_full}
 
 -- bytes behind those that are there
 put_behind : (buffer bytes last : List ℕ) (there : ℕ) → there + length bytes ≤ length buffer
@@ -47,7 +47,7 @@ module _ (room : ℕ) (buffer portion last : List ℕ) (size there at : ℕ) (le
       let used : length portion ≡ at + length (drop at portion) = omega arith in
       let now_there : there + (length portion - at) ≡ length (take there buffer ++ drop at portion) = omega (arith, length-append (take there buffer) (drop at portion)) in
       let after = put_behind buffer (drop at portion) last there (omega arith) (rw whole at e) in
-      let is = within-short room size (take there buffer) (drop at portion) (omega arith) in
+      let is = within_short room size (take there buffer) (drop at portion) (omega arith) in
       (λ k. record { says = values []; used = used k; state = record { room = room; phase = 2; high = 0; size = size; there = now_there k }; buffer = after k })
       ∙ sym (ap (λ (x : OneCall Coming (List ℕ)). heard_by room buffer (used_before at x)) is)
 
@@ -69,24 +69,24 @@ module _ (room : ℕ) (buffer portion last : List ℕ) (size there at : ℕ) (le
       let t = length-take-le (size - there) (drop at portion) (omega arith) in
       let long : size ≡ length (take there buffer ++ take (size - there) (drop at portion)) = omega (arith, length-append (take there buffer) (take (size - there) (drop at portion))) in
       let after = put_behind buffer (take (size - there) (drop at portion)) last there (omega arith) (rw n at e) in
-      let is = within-full room size (take there buffer) (drop at portion) (size - there) (omega arith) (omega arith) (omega arith) in
+      let is = within_full room size (take there buffer) (drop at portion) (size - there) (omega arith) (omega arith) (omega arith) in
       (λ k. record { says = values (long k ∷ []); used = at + (size - there); state = reader_of room idle; buffer = after k })
       ∙ sym (ap (λ (x : OneCall Coming (List ℕ)). heard_by room buffer (used_before at x)) is)
 
 -- a length that is refused, and one that is not
-pub length-unfit : (room : ℕ) (buffer rest : List ℕ) (size at : ℕ) → is_unfit room size ≡ true
+pub length_unfit : (room : ℕ) (buffer rest : List ℕ) (size at : ℕ) → is_unfit room size ≡ true
     → turned_away 30 (reader_of room stopped) buffer ≡ heard_by room buffer (used_before at (until_given (read_byte room) (after_length room size) rest))
 unfolding heard_by
-length-unfit room buffer rest size at bad = rw (bad, until_stopped room rest)
+length_unfit room buffer rest size at bad = rw (bad, until_stopped room rest)
 
 pub length_small : (room size : ℕ) → is_unfit room size ≡ false → (22 ≤ size) × (size ≤ room)
 length_small room size e =
     (ltb-false size 22 (or_false_left (ltb size 22) (ltb room size) e), ltb-false room size (or_false_right (ltb size 22) (ltb room size) e))
 
-pub length-fits : (room : ℕ) (buffer rest : List ℕ) (size at : ℕ) → is_unfit room size ≡ false → (x : Feeds)
+pub length_fits : (room : ℕ) (buffer rest : List ℕ) (size at : ℕ) → is_unfit room size ≡ false → (x : Feeds)
     → x ≡ heard_by room buffer (used_before at (until_given (read_byte room) (within size []) rest))
     → x ≡ heard_by room buffer (used_before at (until_given (read_byte room) (after_length room size) rest))
-length-fits room buffer rest size at good x e = rw good e
+length_fits room buffer rest size at good x e = rw good e
 
 module _ (r : LineReader) (buffer : List ℕ) (h : line_rules r ≡ true) (sized : length buffer ≡ r.room) where
   pub within_facts : r.phase ≡ 2 → Within r.room r.size r.there
@@ -99,22 +99,22 @@ module _ (r : LineReader) (buffer portion : List ℕ) (h : line_rules r ≡ true
   abbrev pub Hears : Feeds → Type 0
   Hears x = x ≡ heard_by r.room buffer (until_given (read_byte r.room) (coming_of r buffer) portion)
 
-  pub hears-stopped : r.phase ≡ 3 → Hears (turned_away 30 r buffer)
+  pub hears_stopped : r.phase ≡ 3 → Hears (turned_away 30 r buffer)
   unfolding heard_by
-  hears-stopped p =
+  hears_stopped p =
       let u = ruled_stopped r buffer h sized (λ q. omega arith) (λ q. omega arith) (λ q. omega arith) in
       rw (u.is, until_stopped r.room portion) (ap (λ (x : LineReader). turned_away 30 x buffer) u.back)
 
-  pub hears-within : r.phase ≡ 2 → (x : Feeds)
+  pub hears_within : r.phase ≡ 2 → (x : Feeds)
       → x ≡ heard_by r.room buffer (used_before 0 (until_given (read_byte r.room) (within r.size (take r.there buffer)) portion)) → Hears x
-  hears-within p x e =
+  hears_within p x e =
       let u = ruled_within r buffer h sized (λ q. omega arith) (λ q. omega arith) p in
       e ∙ ap (heard_by r.room buffer) (used_none (until_given (read_byte r.room) (within r.size (take r.there buffer)) portion) ∙ rw u.is)
 
-  pub hears-nothing : (r.phase ≡ 3 → ⊥) → (r.phase ≡ 2 → ⊥) → length portion ≡ 0
+  pub hears_nothing : (r.phase ≡ 3 → ⊥) → (r.phase ≡ 2 → ⊥) → length portion ≡ 0
       → Hears (record { says = values []; used = 0; state = r; buffer = buffer })
   unfolding heard_by
-  hears-nothing three two none = go portion none
+  hears_nothing three two none = go portion none
     where
       go : (p : List ℕ) → length p ≡ 0
           → ◌≡◌ {A = Feeds} (record { says = values []; used = 0; state = r; buffer = buffer }) (heard_by r.room buffer (until_given (read_byte r.room) (coming_of r buffer) p))
@@ -130,13 +130,13 @@ module _ (r : LineReader) (buffer portion : List ℕ) (h : line_rules r ≡ true
   first : 0 < length portion → portion ≡ get_or portion 0 0 ∷ drop 1 portion
   first some = drop-cons portion 0 0 some
 
-  pub hears-low : r.phase ≡ 1 → 0 < length portion → (low : ℕ) → low ≡ get_or portion 0 0 → (x : Feeds)
+  pub hears_low : r.phase ≡ 1 → 0 < length portion → (low : ℕ) → low ≡ get_or portion 0 0 → (x : Feeds)
       → x ≡ heard_by r.room buffer (used_before 1 (until_given (read_byte r.room) (after_length r.room (r.high * 256 + low)) (drop 1 portion))) → Hears x
-  hears-low p some low is x e =
+  hears_low p some low is x e =
       let u = ruled_half r buffer h sized (λ q. omega arith) p in
       e
       ∙ ap (heard_by r.room buffer)
-      (used-one (until_given (read_byte r.room) (after_length r.room (r.high * 256 + low)) (drop 1 portion))
+      (used_one (until_given (read_byte r.room) (after_length r.room (r.high * 256 + low)) (drop 1 portion))
       ∙ ap (λ (b : ℕ). until_given (read_byte r.room) (half r.high) (b ∷ drop 1 portion)) is
       ∙ ap (until_given (read_byte r.room) (half r.high)) (sym (first some))
       ∙ rw u.is)
@@ -159,9 +159,9 @@ module _ (r : LineReader) (buffer portion : List ℕ) (h : line_rules r ≡ true
       alone : portion ≡ get_or portion 0 0 ∷ []
       alone = first (omega arith) ∙ ap (λ (l : List ℕ). get_or portion 0 0 ∷ l) (none (drop 1 portion) (omega (arith, length-drop 1 portion)))
 
-  pub hears-length : (r.phase ≡ 3 → ⊥) → (r.phase ≡ 2 → ⊥) → (r.phase ≡ 1 → ⊥) → 1 < length portion → (high low : ℕ) → high ≡ get_or portion 0 0 → low ≡ get_or portion 1 0 → (x : Feeds)
+  pub hears_length : (r.phase ≡ 3 → ⊥) → (r.phase ≡ 2 → ⊥) → (r.phase ≡ 1 → ⊥) → 1 < length portion → (high low : ℕ) → high ≡ get_or portion 0 0 → low ≡ get_or portion 1 0 → (x : Feeds)
       → x ≡ heard_by r.room buffer (used_before 2 (until_given (read_byte r.room) (after_length r.room (high * 256 + low)) (drop 2 portion))) → Hears x
-  hears-length three two one some high low is-high is-low x e =
+  hears_length three two one some high low is-high is-low x e =
       idle_or_half r h three two
       (λ p. let u = ruled_idle r buffer h sized p in
       e

@@ -12,7 +12,7 @@ use Rattle.terms.specs.Lists.{all}
 use Rattle.terms.proofs.Laws.{and_left, and_right}
 use Rattle.wire.specs.BigEndian.{is_byte}
 use Rattle.portions.specs.Fold.{behind, read_all}
-use Rattle.portions.proofs.Folds.{behind-behind}
+use Rattle.portions.proofs.Folds.{behind_behind}
 use Rattle.portions.proofs.Stops.{in_line}
 use Rattle.serial_state.specs.Frames.{is_stopped, read_byte}
 use Rattle.serial_state.specs.Rules.{coming_of, line_rules}
@@ -63,7 +63,7 @@ heard r buffer line (size ∷ sizes) h own w =
     record {
       is = (rw (take-append-drop size line) at law)
           ∙ ap (behind (packet_at call.says call.buffer)) later
-          ∙ behind-behind (packet_at call.says call.buffer) then.packets (read_all (read_byte r.room) (coming_of then.state then.buffer) then.unused);
+          ∙ behind_behind (packet_at call.says call.buffer) then.packets (read_all (read_byte r.room) (coming_of then.state then.buffer) then.unused);
       rules = a.rules;
       room = a.room ∙ d.room;
       sized = a.sized ∙ d.sized;

@@ -18,18 +18,18 @@ use Rattle.portions.proofs.Stops as P
 use Rattle.serial_state.specs.Frames.{Coming, idle, half, within, stopped, is_stopped, is_unfit, read_byte}
 use Rattle.serial_state.specs.Rules.{coming_of, reader_of, there_in, line_rules}
 use Rattle.serial_state.specs.declared.LineReader.{LineReader}
-use Rattle.serial_state.proofs.Facts.{Keeps, ruled, keeps-rules, told_back}
+use Rattle.serial_state.proofs.Facts.{Keeps, ruled, keeps_rules_lem, told_back}
 use Rattle.serial_feed.specs.Feed.{Feeds, heard_by, feed_of}
 use Rattle.serial_feed.proofs.Bytes.{until_stopped}
 use Rattle.serial_feed.proofs.Ways.{length_small, other_buffer, own_buffer}
 use Rattle.serial_runs.specs.Offers.{packet_at, is_refusal}
 use Rattle.serial_runs.proofs.Lines.{stays}
 
-pub stopped-is : (coming : Coming) → is_stopped coming ≡ true → coming ≡ stopped
-stopped-is idle e = let z : ◌≡◌ {A = ℕ} 0 1 = cc in absurd (omega arith)
-stopped-is (half high) e = let z : ◌≡◌ {A = ℕ} 0 1 = cc in absurd (omega arith)
-stopped-is (within size there) e = let z : ◌≡◌ {A = ℕ} 0 1 = cc in absurd (omega arith)
-stopped-is stopped e = refl
+pub stopped_is : (coming : Coming) → is_stopped coming ≡ true → coming ≡ stopped
+stopped_is idle e = let z : ◌≡◌ {A = ℕ} 0 1 = cc in absurd (omega arith)
+stopped_is (half high) e = let z : ◌≡◌ {A = ℕ} 0 1 = cc in absurd (omega arith)
+stopped_is (within size there) e = let z : ◌≡◌ {A = ℕ} 0 1 = cc in absurd (omega arith)
+stopped_is stopped e = refl
 
 module _ (room : ℕ) where
   -- a byte gives out one packet or none, and then nothing is there
@@ -104,7 +104,7 @@ module _ (room : ℕ) where
   record Told (coming : Coming) (portion buffer : List ℕ) (fed : Feeds) : Type 0 where
     is : read_all (read_byte room) coming portion ≡ behind (packet_at fed.says fed.buffer) (read_all (read_byte room) (coming_of fed.state fed.buffer) (drop fed.used portion))
     in_portion : fed.used ≤ length portion
-    state-is : (known : Coming) × Keeps room known × (fed.state ≡ reader_of room known)
+    state_is : (known : Coming) × Keeps room known × (fed.state ≡ reader_of room known)
     sized : length fed.buffer ≡ length buffer
     refusal_is : is_refusal fed.says ≡ is_stopped (coming_of fed.state fed.buffer)
     for_good : is_stopped coming ≡ true → is_refusal fed.says ≡ true
@@ -143,12 +143,12 @@ module _ (room : ℕ) where
               let t : is_stopped state ≡ false = ap is_stopped s in
               let z : ◌≡◌ {A = ℕ} 0 1 = cc in absurd (omega arith)
           by true e [] q =
-              let s = stopped-is state e in
+              let s = stopped_is state e in
               rw e
               (record {
                 is = d.is ∙ rw (q, s, stays room (drop used portion), stays room portion);
                 in_portion = omega arith;
-                state-is = (stopped, omega arith, refl);
+                state_is = (stopped, omega arith, refl);
                 sized = refl;
                 refusal_is = refl;
                 for_good = λ _. refl;
@@ -159,7 +159,7 @@ module _ (room : ℕ) where
               (record {
                 is = d.is ∙ rw (q, told_back room state buffer);
                 in_portion = d.in_portion;
-                state-is = (state, u.keeps, refl);
+                state_is = (state, u.keeps, refl);
                 sized = over_front (there_in state) buffer (omega (arith, there_fits state u.keeps));
                 refusal_is = rw (told_back room state buffer) (sym e);
                 for_good = λ b. let t = still b in let z : ◌≡◌ {A = ℕ} 0 1 = cc in absurd (omega arith);
@@ -171,7 +171,7 @@ module _ (room : ℕ) where
               (record {
                 is = d.is ∙ rw (q, g.0, g.1, take-append_seam x (drop (length x) buffer));
                 in_portion = d.in_portion;
-                state-is = (idle, omega arith, refl);
+                state_is = (idle, omega arith, refl);
                 sized = over_front x buffer (omega (arith, g.2));
                 refusal_is = refl;
                 for_good = λ b. let t = still b in let z : ◌≡◌ {A = ℕ} 0 1 = cc in absurd (omega arith);
@@ -202,11 +202,11 @@ module _ (r : LineReader) (portion buffer : List ℕ) (h : line_rules r ≡ true
       let known = ruled r buffer h own in
       let k = subst (Keeps r.room) (sym known.1.is) known.1.keeps in
       let d = subst (Told r.room (coming_of r buffer) portion buffer) (own_buffer r portion buffer h own) (heard_by_lem r.room (coming_of r buffer) portion buffer own k w) in
-      let s = d.state-is in
+      let s = d.state_is in
       record {
         is = d.is;
         in_portion = d.in_portion;
-        rules = ap line_rules s.2 ∙ keeps-rules r.room s.0 s.1;
+        rules = ap line_rules s.2 ∙ keeps_rules_lem r.room s.0 s.1;
         room = ap (λ (x : LineReader). x.room) s.2 ∙ room_of r.room s.0;
         sized = d.sized;
         refusal_is = d.refusal_is;

@@ -18,14 +18,14 @@ use Rattle.serial_state.specs.Frames.{Coming, idle, half, within, stopped, is_st
 use Rattle.serial_state.specs.Rules.{coming_of, reader_of, there_in, line_rules}
 use Rattle.serial_state.specs.Start.{line_start}
 use Rattle.serial_state.specs.declared.LineReader.{LineReader}
-use Rattle.serial_state.proofs.Facts.{Keeps, ruled, keeps-rules}
+use Rattle.serial_state.proofs.Facts.{Keeps, ruled, keeps_rules_lem}
 use Rattle.serial_feed.specs.Feed.{Feeds, heard_by, feed_of}
-use Rattle.serial_feed.proofs.Bytes.{within-short}
+use Rattle.serial_feed.proofs.Bytes.{within_short}
 use Rattle.serial_feed.proofs.Ways.{own_buffer}
 use Rattle.serial_runs.specs.Offers.{Feeding, all_bytes, reader_after, LeftByCalls, hears_from, HostDone}
 use Rattle.serial_runs.specs.Promises.{ElevenExactly, HoweverCut, GetsDone, HonestLine, RefusedLength}
 use Rattle.serial_runs.proofs.Lines.{stays, a_line}
-use Rattle.serial_runs.proofs.Calls.{stopped-is, feed_keeps}
+use Rattle.serial_runs.proofs.Calls.{stopped_is, feed_keeps}
 use Rattle.serial_runs.proofs.Along.{heard, gets_done}
 
 -- any calls keep the rules
@@ -44,7 +44,7 @@ bytes_zeros (suc n) = bytes_zeros n
 one_call : (buffer portion : List ℕ) → (feed_of (line_start buffer) portion buffer).state ≡ reader_of (length buffer) (until_given (read_byte (length buffer)) idle portion).state
 unfolding heard_by
 one_call buffer portion =
-    ap (λ (f : Feeds). f.state) (sym (own_buffer (line_start buffer) portion buffer (keeps-rules (length buffer) idle (omega arith)) refl))
+    ap (λ (f : Feeds). f.state) (sym (own_buffer (line_start buffer) portion buffer (keeps_rules_lem (length buffer) idle (omega arith)) refl))
     ∙ go (until_given (read_byte (length buffer)) idle portion).state
   where
     go : (state : Coming) → (heard_by (length buffer) buffer (record { gave = (until_given (read_byte (length buffer)) idle portion).gave; used = (until_given (read_byte (length buffer)) idle portion).used; state = state })).state ≡ reader_of (length buffer) state
@@ -71,7 +71,7 @@ leaves room (within size there) k w =
     by_zeros room ((size / 256) ∷ (size % 256) ∷ there) (within size there)
     (rw (lt-ltb (size / 256) 256 (omega (arith, k.wide)), lt-ltb (size % 256) 256 (omega arith)) w)
     (let back : size / 256 * 256 + size % 256 ≡ size = omega arith in
-    rw (back, le-ltb size 22 k.low, le-ltb room size k.fits, within-short room size [] there (omega (arith, k.less))))
+    rw (back, le-ltb size 22 k.low, le-ltb room size k.fits, within_short room size [] there (omega (arith, k.less))))
 leaves room stopped k w = by_zeros room (0 ∷ 0 ∷ []) stopped refl refl
 
 -- what is there in a buffer of zeros
@@ -100,7 +100,7 @@ eleven_exactly r = (there, back)
         subst LeftByCalls (sym known.1.back) (leaves r.room known.0 known.1.keeps w)
 
     back : LeftByCalls r → line_rules r ≡ true
-    back (buffer, calls, w, e) = subst (λ (x : LineReader). line_rules x ≡ true) e (after_keeps (line_start buffer) calls (keeps-rules (length buffer) idle (omega arith)) w)
+    back (buffer, calls, w, e) = subst (λ (x : LineReader). line_rules x ≡ true) e (after_keeps (line_start buffer) calls (keeps_rules_lem (length buffer) idle (omega arith)) w)
 
 -- a host that is done has read the whole line
 whole_line : (buffer line sizes : List ℕ) → all is_byte line ≡ true → HostDone (hears_from buffer line sizes)
@@ -108,17 +108,17 @@ whole_line : (buffer line sizes : List ℕ) → all is_byte line ≡ true → Ho
     ≡ record { state = coming_of (hears_from buffer line sizes).state (hears_from buffer line sizes).buffer; gave = (hears_from buffer line sizes).packets }
 whole_line buffer line sizes w done =
     let host = hears_from buffer line sizes in
-    let h = heard (line_start buffer) buffer line sizes (keeps-rules (length buffer) idle (omega arith)) refl w in
+    let h = heard (line_start buffer) buffer line sizes (keeps_rules_lem (length buffer) idle (omega arith)) refl w in
     ⊎_elim
     (λ e. (rw e at h.is) ∙ rw (append-nil host.packets))
     (λ e.
-    let s = stopped-is (coming_of host.state host.buffer) (sym h.refusal ∙ e) in
+    let s = stopped_is (coming_of host.state host.buffer) (sym h.refusal ∙ e) in
     h.is ∙ rw (s, stays (length buffer) host.unused, append-nil host.packets))
     done
 
 pub however_cut : HoweverCut
 however_cut buffer line sizes w done =
-    let h = heard (line_start buffer) buffer line sizes (keeps-rules (length buffer) idle (omega arith)) refl w in
+    let h = heard (line_start buffer) buffer line sizes (keeps_rules_lem (length buffer) idle (omega arith)) refl w in
     let e = whole_line buffer line sizes w done in
     record {
       packets = sym (ap (λ (x : Left Coming (List ℕ)). x.gave) e);
@@ -126,7 +126,7 @@ however_cut buffer line sizes w done =
     }
 
 pub always_done : GetsDone
-always_done buffer line sizes w some short = gets_done (line_start buffer) buffer line sizes (keeps-rules (length buffer) idle (omega arith)) refl w some short
+always_done buffer line sizes w some short = gets_done (line_start buffer) buffer line sizes (keeps_rules_lem (length buffer) idle (omega arith)) refl w some short
 
 pub honest_line : HonestLine
 honest_line buffer sizes packets fit w done =
@@ -135,7 +135,7 @@ honest_line buffer sizes packets fit w done =
     let read : frames_of (length buffer) line ≡ record { state = idle; gave = packets } =
     ap (frames_of (length buffer)) (sym (append-nil line)) ∙ a_line (length buffer) packets [] fit ∙ rw (append-nil packets) in
     let e = sym (whole_line buffer line sizes w done) ∙ read in
-    let h = heard (line_start buffer) buffer line sizes (keeps-rules (length buffer) idle (omega arith)) refl w in
+    let h = heard (line_start buffer) buffer line sizes (keeps_rules_lem (length buffer) idle (omega arith)) refl w in
     let known = ruled host.state host.buffer h.rules (h.sized ∙ sym h.room) in
     let now-idle : known.0 ≡ idle = sym known.1.is ∙ ap (λ (x : Left Coming (List ℕ)). x.state) e in
     record {
@@ -144,8 +144,8 @@ honest_line buffer sizes packets fit w done =
       as_started = known.1.back ∙ rw (now-idle, h.room);
     }
 
-pub refused-length : RefusedLength
-refused-length buffer sizes packets high low rest fit bad w done =
+pub refused_length : RefusedLength
+refused_length buffer sizes packets high low rest fit bad w done =
     let line = line_of packets ++ high ∷ low ∷ rest in
     let a = however_cut buffer line sizes w done in
     let read : frames_of (length buffer) line ≡ record { state = stopped; gave = packets } =

@@ -47,8 +47,8 @@ by_phase {C} p f0 f1 f2 f3 f4 = go (eqb p 0) (eqb p 1) (eqb p 2) (eqb p 3) (eqb-
     go false false false true a1 a2 b1 b2 d1 d2 e1 e2 = f3 (a2 refl) (b2 refl) (d2 refl) (e1 refl)
     go false false false false a1 a2 b1 b2 d1 d2 e1 e2 = f4 (a2 refl) (b2 refl) (d2 refl) (e2 refl)
 
-all-zero : (high size there : ℕ) → (eqb high 0 && (eqb size 0 && eqb there 0)) ≡ true → (high ≡ 0) × (size ≡ 0) × (there ≡ 0)
-all-zero high size there h =
+all_zero : (high size there : ℕ) → (eqb high 0 && (eqb size 0 && eqb there 0)) ≡ true → (high ≡ 0) × (size ≡ 0) × (there ≡ 0)
+all_zero high size there h =
     let q = and_right (eqb high 0) (eqb size 0 && eqb there 0) h in
     (eqb-true high 0 (and_left (eqb high 0) (eqb size 0 && eqb there 0) h), eqb-true size 0 (and_left (eqb size 0) (eqb there 0) q), eqb-true there 0 (and_right (eqb size 0) (eqb there 0) q))
 
@@ -70,7 +70,7 @@ module _ (r : LineReader) (buffer : List ℕ) (h : line_rules r ≡ true) (sized
 
   pub ruled_idle : r.phase ≡ 0 → Ruled r buffer idle
   ruled_idle a =
-      let z = all-zero r.high r.size r.there (nothing_there r a ∙ h) in
+      let z = all_zero r.high r.size r.there (nothing_there r a ∙ h) in
       record { is = simp eq-eqb; back = λ k. record { room = r.room; phase = a k; high = z.0 k; size = z.1 k; there = z.2 k }; keeps = omega arith }
 
   pub ruled_half : (r.phase ≡ 0 → ⊥) → r.phase ≡ 1 → Ruled r buffer (half r.high)
@@ -100,7 +100,7 @@ module _ (r : LineReader) (buffer : List ℕ) (h : line_rules r ≡ true) (sized
   ruled_stopped a b d =
       let g = by_phase {C = Ruled r buffer stopped} r.phase (λ x. absurd (a x)) (λ _ x. absurd (b x)) (λ _ _ x. absurd (d x))
       (λ _ _ _ e.
-      let z = all-zero r.high r.size r.there (has_stopped r a b d e ∙ h) in
+      let z = all_zero r.high r.size r.there (has_stopped r a b d e ∙ h) in
       record {
         is = simp (ne_eqb r.phase 0 a, ne_eqb r.phase 1 b, ne_eqb r.phase 2 d);
         back = λ k. record { room = r.room; phase = e k; high = z.0 k; size = z.1 k; there = z.2 k };
@@ -119,12 +119,12 @@ module _ (r : LineReader) (buffer : List ℕ) (h : line_rules r ≡ true) (sized
       (λ a b d e. (stopped, ruled_stopped a b d))
 
 -- what keeps the rules is told by numbers that keep them
-pub keeps-rules : (room : ℕ) (coming : Coming) → Keeps room coming → line_rules (reader_of room coming) ≡ true
+pub keeps_rules_lem : (room : ℕ) (coming : Coming) → Keeps room coming → line_rules (reader_of room coming) ≡ true
 unfolding line_rules
-keeps-rules room idle k = refl
-keeps-rules room (half high) k = rw (lt-ltb high 256 k)
-keeps-rules room (within size there) k = rw (le-leb 22 size k.low, le-leb size room k.fits, le-leb size 65535 k.wide, lt-ltb (length there) size k.less)
-keeps-rules room stopped k = refl
+keeps_rules_lem room idle k = refl
+keeps_rules_lem room (half high) k = rw (lt-ltb high 256 k)
+keeps_rules_lem room (within size there) k = rw (le-leb 22 size k.low, le-leb size room k.fits, le-leb size 65535 k.wide, lt-ltb (length there) size k.less)
+keeps_rules_lem room stopped k = refl
 
 -- and by a buffer with what is there at its front
 pub told_back : (room : ℕ) (coming : Coming) (buffer : List ℕ) → coming_of (reader_of room coming) (there_in coming at_front_of buffer) ≡ coming

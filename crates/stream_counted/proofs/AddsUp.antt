@@ -5,7 +5,7 @@ use mathlib.Core.Bool.{true}
 use native.Mathlib.Omega.{arith}
 use borrow.Author.Tests.{lt-leb, ltb-true}
 use Rattle.terms.proofs.Laws.{and_left, and_right}
-use Rattle.sender_meaning.proofs.Starts.{start-standing, start-next}
+use Rattle.sender_meaning.proofs.Starts.{start_standing, start_next}
 use Rattle.sender_runs.proofs.Remembering.{remembers}
 use Rattle.stream_joined.specs.Moves.{Ends, at_sender, at_receiver, Moves, nothing, ◌then◌, sender_end, ids_fit, move_in_width, moves_in_width}
 use Rattle.stream_joined.specs.Wire.{Joined}
@@ -23,8 +23,8 @@ module _ (ends : Ends) where
       total_none (λ n. at_hand (standing_in (sender_end ends nothing) n)) 0 (sender_end ends nothing).state.next.0
       (λ n _ h.
       rw (
-        start-standing ends.first ends.chunk ends.count ends.send_store ends.sender-started narrow n,
-        lt-leb ends.first.0 n (omega (arith, start-next ends.first ends.chunk ends.count ends.send_store ends.sender-started)),
+        start_standing ends.first ends.chunk ends.count ends.send_store ends.sender_started narrow n,
+        lt-leb ends.first.0 n (omega (arith, start_next ends.first ends.chunk ends.count ends.send_store ends.sender_started)),
       ))
 
   -- each call keeps the balance

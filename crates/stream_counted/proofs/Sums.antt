@@ -8,10 +8,10 @@ use Rattle.terms.specs.Lists.{joined}
 use Rattle.sender_meaning.specs.Steps.{chunk_at, chunks_from}
 use Rattle.stream_counted.specs.Counted.{total}
 
-pub total-same : (f g : ℕ → ℕ) (from left : ℕ) → ((n : ℕ) → from ≤ n → n < from + left → f n ≡ g n) → total f from left ≡ total g from left
-total-same f g from zero e = refl
-total-same f g from (suc left) e =
-    let rest = total-same f g (suc from) left (λ n a b. e n (omega arith) (omega arith)) in
+pub total_same : (f g : ℕ → ℕ) (from left : ℕ) → ((n : ℕ) → from ≤ n → n < from + left → f n ≡ g n) → total f from left ≡ total g from left
+total_same f g from zero e = refl
+total_same f g from (suc left) e =
+    let rest = total_same f g (suc from) left (λ n a b. e n (omega arith) (omega arith)) in
     omega (arith, e from (omega arith) (omega arith), rest)
 
 pub total_both : (f g : ℕ → ℕ) (from left : ℕ) → total (λ n. f n + g n) from left ≡ total f from left + total g from left

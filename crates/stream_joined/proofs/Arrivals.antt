@@ -12,7 +12,7 @@ use Rattle.terms.specs.Answers.{Said, refusal, values}
 use Rattle.sender_meaning.proofs.Counts.{by_bool}
 use Rattle.receiver_runs.specs.Runs as R
 use Rattle.receiver_runs.specs.History.{accepted_by, accepted_in, first_of}
-use Rattle.receiver_runs.proofs.Pieces.{by_first, some_not_none, first_stays, first-behind}
+use Rattle.receiver_runs.proofs.Pieces.{by_first, some_not_none, first_stays, first_behind}
 use Rattle.receiver_runs.proofs.More.{asked_is}
 use Rattle.sender_runs.specs.Runs as S
 use Rattle.sender_runs.specs.Remembers.{made}
@@ -46,7 +46,7 @@ module _ (ends : Ends) (moves : Moves) (wide : moves_in_width moves ≡ true) wh
   -- what arrives was submitted
   pub arrived : (number : SeqNo) (payload : List ℕ) → Arrives (packets_in (sender_history ends moves)) number payload → submitted_at ends moves number.0 ≡ some payload
   arrived number payload a =
-      let c = carries a.packet a.was-written in
+      let c = carries a.packet a.was_written in
       let own : c.number ≡ number.0 = sym c.reads.number_read ∙ ap (λ (x : SeqNo). x.0) (sym a.number_read) in
       let same : some c.bytes ≡ some payload = ap some (sym c.reads.payload_read ∙ sym a.payload_read) in
       rw own at c.as_submitted ∙ same
@@ -71,12 +71,12 @@ unfolding or_else
 submitted_stays ends earlier call n bytes e = submitted_on ends earlier call n ∙ rw e
 
 -- what was accepted first under a number was submitted under it
-pub accepted-submitted : (ends : Ends) (moves : Moves) → Joined ends moves → (n : ℕ) (bytes : List ℕ)
+pub accepted_submitted : (ends : Ends) (moves : Moves) → Joined ends moves → (n : ℕ) (bytes : List ℕ)
     → first_of n (accepted_in (receiver_history ends moves)) ≡ some bytes → submitted_at ends moves n ≡ some bytes
-accepted-submitted ends nothing j n bytes e = some_not_none e refl
-accepted-submitted ends (earlier then at_sender call) j n bytes e =
-    submitted_stays ends earlier call n bytes (accepted-submitted ends earlier (earlier_joined ends earlier (at_sender call) j) n bytes e)
-accepted-submitted ends (earlier then at_receiver call) j n bytes e =
+accepted_submitted ends nothing j n bytes e = some_not_none e refl
+accepted_submitted ends (earlier then at_sender call) j n bytes e =
+    submitted_stays ends earlier call n bytes (accepted_submitted ends earlier (earlier_joined ends earlier (at_sender call) j) n bytes e)
+accepted_submitted ends (earlier then at_receiver call) j n bytes e =
     let before = earlier_joined ends earlier (at_receiver call) j in
     let had = accepted_in (receiver_history ends earlier) in
     let event = got_event ends earlier call in
@@ -84,9 +84,9 @@ accepted-submitted ends (earlier then at_receiver call) j n bytes e =
     let e' : first_of n (had ++ new) ≡ some bytes = ap (first_of n) (sym (accepted_on ends earlier call)) ∙ e in
     by_first (first_of n had)
     (λ z.
-    let f : first_of n (accepted_by event.asked event.answered ++ []) ≡ some bytes = sym (first-behind n had new z) ∙ e' in
+    let f : first_of n (accepted_by event.asked event.answered ++ []) ≡ some bytes = sym (first_behind n had new z) ∙ e' in
     brought ends earlier before.widths call event.answered j.truly.1 n bytes
     (rw (append-nil (accepted_by event.asked event.answered), asked_is (receiver_end ends earlier) call) at f))
     (λ b q.
     let same : some b ≡ some bytes = sym (first_stays n had new b q) ∙ e' in
-    accepted-submitted ends earlier before n bytes (q ∙ same))
+    accepted_submitted ends earlier before n bytes (q ∙ same))

@@ -27,7 +27,7 @@ use Rattle.sender_meaning.specs.Meaning.{Sound}
 use Rattle.sender_meaning.specs.Steps.{chunk_at}
 use Rattle.sender_meaning.proofs.Counts.{by_bool}
 use Rattle.sender_meaning.proofs.Submitting.{submit_done}
-use Rattle.sender_meaning.proofs.SubmittingReads.{submit-reads}
+use Rattle.sender_meaning.proofs.SubmittingReads.{submit_reads}
 use Rattle.sender_runs.specs.Runs as S
 use Rattle.sender_runs.specs.Remembers.{made_by, made_in, made}
 use Rattle.sender_runs.proofs.Remembering.{remembers}
@@ -69,7 +69,7 @@ module _ (ends : Ends) (kept : S.Kept) (sound : Sound kept.state kept.store) (is
       let p : (submit_of s r to from bytes store).says ≡ values (count ∷ []) = q ∙ ap values (submit_done s r to from bytes store given q).gives in
       by_bool (leb s.next.0 n && ltb n (s.next.0 + count))
       (λ t.
-      let reads = submit-reads s r to from bytes store count p sound n (leb-true _ _ (and_left (leb s.next.0 n) (ltb n (s.next.0 + count)) t))
+      let reads = submit_reads s r to from bytes store count p sound n (leb-true _ _ (and_left (leb s.next.0 n) (ltb n (s.next.0 + count)) t))
       (ltb-true n (s.next.0 + count) (and_right (leb s.next.0 n) (ltb n (s.next.0 + count)) t))
       (ltb-true to.0 (2 ^ 32) (and_left (ltb to.0 (2 ^ 32)) (ltb from.0 (2 ^ 32)) wide))
       (ltb-true from.0 (2 ^ 32) (and_right (ltb to.0 (2 ^ 32)) (ltb from.0 (2 ^ 32)) wide)) in
@@ -95,7 +95,7 @@ made_reads ends (earlier then at_sender call) wide n =
     let known = remembers (sender_run ends earlier) in
     rw (made_on ends earlier call n, submitted_on ends earlier call n)
     (both_then n _ _ _ _ (made_reads ends earlier (and_left (moves_in_width earlier) (ids_fit call) wide) n)
-    (called ends (sender_end ends earlier) known.sound known.chunk-is call (and_right (moves_in_width earlier) (ids_fit call) wide) n))
+    (called ends (sender_end ends earlier) known.sound known.chunk_is call (and_right (moves_in_width earlier) (ids_fit call) wide) n))
 
 -- WHAT LEAVES
 
@@ -135,13 +135,13 @@ leaves run earlier later e h (S.send clock room) (values given) a v packet w =
     let m = l.as_made in
     let size : get_or given 1 0 ≡ length m.packet = ap (λ (g : List ℕ). get_or g 1 0) l.given_is ∙ m.size_is in
     let same : packet ≡ m.packet = Memᴰ.eq_of_singleton w ∙ front m.packet room e.output (get_or given 1 0) m.left_is size in
-    (l.number, m.was-made ∙ ap some (sym same))
+    (l.number, m.was_made ∙ ap some (sym same))
 leaves run earlier later e h (S.fetch rank room) (values given) a v packet w =
     let l = (leaves_as_made run).by_fetch earlier later e h rank room given a v in
     let m = l.as_made in
     let size : get_or given 0 0 ≡ length m.packet = ap (λ (g : List ℕ). get_or g 0 0) l.given_is ∙ m.size_is in
     let same : packet ≡ m.packet = Memᴰ.eq_of_singleton w ∙ front m.packet room e.output (get_or given 0 0) m.left_is size in
-    (l.number, m.was-made ∙ ap some (sym same))
+    (l.number, m.was_made ∙ ap some (sym same))
 leaves run earlier later e h (S.send clock room) (refusal why) a v packet w = absurd (Memᴰ.not-nil w)
 leaves run earlier later e h (S.fetch rank room) (refusal why) a v packet w = absurd (Memᴰ.not-nil w)
 leaves run earlier later e h (S.submit r to from bytes) says a v packet w = absurd (Memᴰ.not-nil w)

@@ -21,8 +21,8 @@ use Rattle.receiver_runs.specs.Runs as R
 use Rattle.receiver_runs.specs.History.{accepted_in, first_of}
 use Rattle.receiver_runs.specs.Delivered.{Taken, Held, through_in, nacks_in, Honest}
 use Rattle.receiver_runs.proofs.Pieces.{first_stays}
-use Rattle.receiver_runs.proofs.Places.{known, taken-below, nothing_lost}
-use Rattle.receiver_runs.proofs.More.{ack-honest}
+use Rattle.receiver_runs.proofs.Places.{known, taken_below, nothing_lost}
+use Rattle.receiver_runs.proofs.More.{ack_honest}
 use Rattle.receiver_runs.proofs.More as Receives
 use Rattle.sender_runs.specs.Runs as S
 use Rattle.sender_runs.specs.Remembers.{named_by, named_in}
@@ -58,7 +58,7 @@ module _ (ends : Ends) (moves : Moves) (wide : moves_in_width moves ≡ true) wh
   there_came n low =
       let run = receiver_run ends moves wide in
       ⊎_elim
-      (λ t. let k = (known run).taken-all n low (taken-below run n t) in (k.0, k.2))
+      (λ t. let k = (known run).taken_all n low (taken_below run n t) in (k.0, k.2))
       (λ h. (h.0, (nothing_lost run).held_first n h.0 h.1))
 
   honest_claims : (packet : List ℕ) → Honest (receiver_run ends moves wide) packet → Claims ends moves packet
@@ -70,7 +70,7 @@ module _ (ends : Ends) (moves : Moves) (wide : moves_in_width moves ≡ true) wh
   writes : (call : R.Call) (says : Said) → R.in_width call ≡ true → (R.step_of (receiver_end ends moves) call).event.answered ≡ says
       → (packet : List ℕ) → IsOneOf packet (ack_by call says (R.step_of (receiver_end ends moves) call).event.output) → Claims ends moves packet
   writes (R.acknowledge send recv output) (values given) fits v packet w =
-      rw (Memᴰ.eq_of_singleton w) (honest_claims _ (ack-honest (receiver_run ends moves wide) send recv output given fits v))
+      rw (Memᴰ.eq_of_singleton w) (honest_claims _ (ack_honest (receiver_run ends moves wide) send recv output given fits v))
   writes (R.acknowledge send recv output) (refusal why) fits v packet w = absurd (Memᴰ.not-nil w)
   writes (R.accept number payload) says fits v packet w = absurd (Memᴰ.not-nil w)
   writes (R.take output) says fits v packet w = absurd (Memᴰ.not-nil w)
@@ -112,7 +112,7 @@ module _ (ends : Ends) (earlier : Moves) (wide : moves_in_width earlier ≡ true
   returned through nacks r t =
       let up : n ≤ through = leb-true n through (and_left (leb n through) (all (differs n) nacks) t) in
       let out = named_absent n nacks (and_right (leb n through) (all (differs n) nacks) t) in
-      (written_claims ends earlier wide r.packet r.was-written).absent_came n low (rw r.through_read at up) (rw r.nacks_read at out)
+      (written_claims ends earlier wide r.packet r.was_written).absent_came n low (rw r.through_read at up) (rw r.nacks_read at out)
 
   -- what a call at the sender names
   names : (call : S.Call) (says : Said) → HandedToSender (acks_in (receiver_history ends earlier)) call → named_by n call says ≡ true → Came ends earlier n

@@ -25,7 +25,7 @@ sender_run ends moves = record {
   chunk = ends.chunk;
   count = ends.count;
   store = ends.send_store;
-  started = ends.sender-started;
+  started = ends.sender_started;
   width = ends.first_width;
   calls = sender_calls moves;
 }
@@ -42,7 +42,7 @@ receiver_run ends moves wide = record {
   s = ends.s;
   slot = ends.slot;
   store = ends.recv_store;
-  started = ends.receiver-started;
+  started = ends.receiver_started;
   calls = receiver_calls moves;
   widths = and_both (ltb ends.s.0 (2 ^ 32)) (R.all_in_width (receiver_calls moves))
       (lt-ltb ends.s.0 (2 ^ 32) (omega (arith, ends.one_less, ltb-true ends.first.0 (2 ^ 32) ends.first_width))) (calls_fit moves wide);

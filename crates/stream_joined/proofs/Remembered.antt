@@ -11,7 +11,7 @@ use native.Mathlib.Omega.{arith}
 use Rattle.terms.proofs.Laws.{case, or_of}
 use Rattle.sender_meaning.specs.Meaning.{unmade, gone}
 use Rattle.sender_meaning.proofs.Counts.{by_bool}
-use Rattle.receiver_runs.proofs.Places.{next_of, known, accepted-held}
+use Rattle.receiver_runs.proofs.Places.{next_of, known, accepted_held}
 use Rattle.sender_runs.specs.Runs as S
 use Rattle.sender_runs.specs.Remembers.{sent_by, named_by, named_in, acked_in, made}
 use Rattle.sender_runs.proofs.Remembering.{remembers, gone_acked}
@@ -20,7 +20,7 @@ use Rattle.stream_joined.specs.Wire.{Joined}
 use Rattle.stream_joined.specs.Forgotten.{Dropped, Received, NothingForgotten}
 use Rattle.stream_joined.proofs.Halves.{sender_run, receiver_run}
 use Rattle.stream_joined.proofs.AsMade.{Both, neither, both, made_reads}
-use Rattle.stream_joined.proofs.Arrivals.{accepted-submitted}
+use Rattle.stream_joined.proofs.Arrivals.{accepted_submitted}
 use Rattle.stream_joined.proofs.Claimed.{Came, named_came}
 
 -- acks that came after a send are acks
@@ -37,19 +37,19 @@ module _ (ends : Ends) (moves : Moves) (j : Joined ends moves) (n : ℕ) where
       let run = receiver_run ends moves j.widths in
       case
       (λ (a : n < next_of run).
-      let t = (known run).taken-all n low a in
-      record { bytes = t.0; as_submitted = accepted-submitted ends moves j n t.0 t.2; received = inr t.1 })
+      let t = (known run).taken_all n low a in
+      record { bytes = t.0; as_submitted = accepted_submitted ends moves j n t.0 t.2; received = inr t.1 })
       (λ (a : n < next_of run → ⊥).
       record {
         bytes = c.0;
-        as_submitted = accepted-submitted ends moves j n c.0 c.1;
-        received = inl (accepted-held run n c.0 (omega arith) c.1);
+        as_submitted = accepted_submitted ends moves j n c.0 c.1;
+        received = inl (accepted_held run n c.0 (omega arith) c.1);
       })
       (dec_lt n (next_of run))
 
   dropped : (p b : Option (List ℕ)) → made (sender_run ends moves) n ≡ p → Both n p b → Dropped ends moves n → Received ends moves n
   dropped p b e (neither z w) d =
-      let u = (remembers (sender_run ends moves)).unmade-is n d.from_first (e ∙ z) in
+      let u = (remembers (sender_run ends moves)).unmade_is n d.from_first (e ∙ z) in
       let g = d.not_there in
       let x : unmade ≡ gone = sym u ∙ g in
       let y : ◌≡◌ {A = ℕ} 0 1 = cc in

@@ -14,15 +14,15 @@ pub record Ends : Type 0 where
   pub chunk : ℕ
   pub count : ℕ
   pub send_store : List ℕ
-  pub sender-started : (Senders.start_of first chunk count (length send_store)).says ≡ values []
+  pub sender_started : (Senders.start_of first chunk count (length send_store)).says ≡ values []
   pub first_width : ltb first.0 (2 ^ 32) ≡ true
   -- the receiver, after the sender's first number less one, with slots of at least the chunk size
   pub s : SeqNo
   pub slot : ℕ
   pub recv_store : List ℕ
-  pub receiver-started : (Receivers.start_of s slot (length recv_store)).says ≡ values []
+  pub receiver_started : (Receivers.start_of s slot (length recv_store)).says ≡ values []
   pub one_less : s.0 + 1 ≡ first.0
-  pub slot-holds : chunk ≤ slot
+  pub slot_holds : chunk ≤ slot
 
 -- a move is any call at one of the two ends
 pub data Move : Type 0 where

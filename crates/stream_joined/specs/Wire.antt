@@ -43,14 +43,14 @@ acks_in (e ∷ rest) = ack_by e.asked e.answered e.output ++ acks_in rest
 -- a packet arrives: one of those that were written, and it is read for its number and its payload
 pub record Arrives (written : List (List ℕ)) (number : SeqNo) (payload : List ℕ) : Type 0 where
   pub packet : List ℕ
-  pub was-written : IsOneOf packet written
+  pub was_written : IsOneOf packet written
   pub number_read : number ≡ (fields_of packet).seq_nro
   pub payload_read : payload ≡ payload_of packet
 
 -- an ack arrives: one of those that were written, and it is read for its ack-through and its NACKs
 pub record Returns (written : List (List ℕ)) (through : ℕ) (nacks : List ℕ) : Type 0 where
   pub packet : List ℕ
-  pub was-written : IsOneOf packet written
+  pub was_written : IsOneOf packet written
   pub through_read : through ≡ through_in packet
   pub nacks_read : nacks ≡ nacks_in packet
 

@@ -21,11 +21,11 @@ use Rattle.sender_submit.specs.Submit.{submit_of}
 use Rattle.sender_submit_answer.specs.Answer.{chunks_of}
 use Rattle.sender_meaning.specs.Meaning.{Sound}
 use Rattle.sender_meaning.specs.Steps.{chunk_at}
-use Rattle.sender_meaning.proofs.Starts.{start-next}
-use Rattle.sender_meaning.proofs.Submitting.{submit-refused, submit_done, submit_stores, submit_chunks}
-use Rattle.sender_meaning.proofs.Sends.{send-nothing, send_changes}
-use Rattle.sender_meaning.proofs.Acks.{acks-nothing, acks_changes}
-use Rattle.sender_meaning.proofs.Resends.{resend-nothing, resend_changes}
+use Rattle.sender_meaning.proofs.Starts.{start_next}
+use Rattle.sender_meaning.proofs.Submitting.{submit_refused, submit_done, submit_stores, submit_chunks}
+use Rattle.sender_meaning.proofs.Sends.{send_nothing, send_changes}
+use Rattle.sender_meaning.proofs.Acks.{acks_nothing, acks_changes}
+use Rattle.sender_meaning.proofs.Resends.{resend_nothing, resend_changes}
 use Rattle.sender_runs.specs.Runs as S
 use Rattle.sender_runs.specs.Remembers.{made}
 use Rattle.sender_runs.proofs.Goes.{not_made}
@@ -77,13 +77,13 @@ module _ (chunk : ℕ) (kept : S.Kept) where
   -- what a call adds: so many numbers from next on, and under them its bytes
   record Adds (call : S.Call) : Type 0 where
     more : ℕ
-    next-is : (S.step_of kept call).kept.state.next.0 ≡ kept.state.next.0 + more
-    old-same : (n : ℕ) → n < kept.state.next.0 → new_at call n ≡ none
+    next_is : (S.step_of kept call).kept.state.next.0 ≡ kept.state.next.0 + more
+    old_same : (n : ℕ) → n < kept.state.next.0 → new_at call n ≡ none
     new_are : row (λ n. or_empty (new_at call n)) kept.state.next.0 more ≡ bytes_by (S.step_of kept call).event.asked (S.step_of kept call).event.answered
 
   nothing_added : (call : S.Call) → (S.step_of kept call).kept.state.next.0 ≡ kept.state.next.0 → ((n : ℕ) → new_at call n ≡ none)
       → bytes_by (S.step_of kept call).event.asked (S.step_of kept call).event.answered ≡ [] → Adds call
-  nothing_added call e f g = record { more = 0; next-is = omega (arith, e); old-same = λ n h. f n; new_are = sym g }
+  nothing_added call e f g = record { more = 0; next_is = omega (arith, e); old_same = λ n h. f n; new_are = sym g }
 
   module _ (sound : Sound kept.state kept.store) (is : kept.state.chunk ≡ chunk) where
     submit_adds : (r : Receiver) (to from : StreamId) (bytes : List ℕ) → Adds (S.submit r to from bytes)
@@ -92,15 +92,15 @@ module _ (chunk : ℕ) (kept : S.Kept) where
         let store = kept.store in
         by_said (submit_of s r to from bytes store).says
         (λ why q.
-        let k = submit-refused s r to from bytes store why q in
+        let k = submit_refused s r to from bytes store why q in
         nothing_added (S.submit r to from bytes) (rw k.0) (λ n. rw q) (rw q))
         (λ given q.
         let count = chunks_of s.chunk (length bytes) in
         let p : (submit_of s r to from bytes store).says ≡ values (count ∷ []) = q ∙ ap values (submit_done s r to from bytes store given q).gives in
         record {
           more = count;
-          next-is = (submit_stores s r to from bytes store count p sound).next-is;
-          old-same = λ n h. rw (p, lt-leb s.next.0 n h);
+          next_is = (submit_stores s r to from bytes store count p sound).next_is;
+          old_same = λ n h. rw (p, lt-leb s.next.0 n h);
           new_are = rw p
               (row_chunks (λ n. or_empty (some (chunk_at chunk (n - s.next.0) bytes) when leb s.next.0 n && ltb n (s.next.0 + count) else none)) s.chunk s.next.0 0 count bytes
               (λ i h.
@@ -115,20 +115,20 @@ module _ (chunk : ℕ) (kept : S.Kept) where
     adds (S.send clock output) =
         nothing_added (S.send clock output)
         (by_said (send_of kept.state clock kept.store output).says
-        (λ why q. rw (send-nothing kept.state clock kept.store output why q).0)
-        (λ given q. rw (send_changes kept.state clock kept.store output given q sound).next-is))
+        (λ why q. rw (send_nothing kept.state clock kept.store output why q).0)
+        (λ given q. rw (send_changes kept.state clock kept.store output given q sound).next_is))
         (λ n. refl) refl
     adds (S.acks through nacks clock) =
         nothing_added (S.acks through nacks clock)
         (by_said (acks_of kept.state through nacks clock).says
-        (λ why q. rw (acks-nothing kept.state through nacks clock why q))
-        (λ given q. rw (acks_changes kept.state through nacks clock kept.store sound given q).next-is))
+        (λ why q. rw (acks_nothing kept.state through nacks clock why q))
+        (λ given q. rw (acks_changes kept.state through nacks clock kept.store sound given q).next_is))
         (λ n. refl) refl
     adds (S.resend clock path) =
         nothing_added (S.resend clock path)
         (by_said (resend_of kept.state clock path).says
-        (λ why q. rw (resend-nothing kept.state clock path why q))
-        (λ given q. rw (resend_changes kept.state clock path kept.store sound given q).next-is))
+        (λ why q. rw (resend_nothing kept.state clock path why q))
+        (λ given q. rw (resend_changes kept.state clock path kept.store sound given q).next_is))
         (λ n. refl) refl
     adds (S.fetch rank output) = nothing_added (S.fetch rank output) refl (λ n. refl) refl
 
@@ -140,23 +140,23 @@ bytes_more (x ∷ h) e = rw (bytes_more h e) (sym (append_assoc (bytes_by x.aske
 
 module _ (ends : Ends) where
   added : (earlier : Moves) (call : S.Call) → Adds ends.chunk (sender_end ends earlier) call
-  added earlier call = let known = remembers (sender_run ends earlier) in adds ends.chunk (sender_end ends earlier) known.sound known.chunk-is call
+  added earlier call = let known = remembers (sender_run ends earlier) in adds ends.chunk (sender_end ends earlier) known.sound known.chunk_is call
 
   next_more : (earlier : Moves) (call : S.Call) → sender_next ends (earlier then at_sender call) ≡ sender_next ends earlier + (added earlier call).more
-  next_more earlier call = ap (λ (k : S.Kept). k.state.next.0) (sender_more ends earlier call) ∙ (added earlier call).next-is
+  next_more earlier call = ap (λ (k : S.Kept). k.state.next.0) (sender_more ends earlier call) ∙ (added earlier call).next_is
 
   -- the sender's next never falls below its first number
   pub next_least : (moves : Moves) → ends.first.0 ≤ sender_next ends moves
-  next_least nothing = omega (arith, start-next ends.first ends.chunk ends.count ends.send_store ends.sender-started)
+  next_least nothing = omega (arith, start_next ends.first ends.chunk ends.count ends.send_store ends.sender_started)
   next_least (earlier then at_receiver call) = next_least earlier
   next_least (earlier then at_sender call) = omega (arith, next_least earlier, next_more earlier call)
 
-  pub given-row : (moves : Moves) → moves_in_width moves ≡ true → submitted ends moves ≡ row (chunk_of ends moves) ends.first.0 (sender_next ends moves - ends.first.0)
-  given-row nothing wide =
-      let z : sender_next ends nothing - ends.first.0 ≡ 0 = omega (arith, start-next ends.first ends.chunk ends.count ends.send_store ends.sender-started) in
+  pub given_row : (moves : Moves) → moves_in_width moves ≡ true → submitted ends moves ≡ row (chunk_of ends moves) ends.first.0 (sender_next ends moves - ends.first.0)
+  given_row nothing wide =
+      let z : sender_next ends nothing - ends.first.0 ≡ 0 = omega (arith, start_next ends.first ends.chunk ends.count ends.send_store ends.sender_started) in
       rw z
-  given-row (earlier then at_receiver call) wide = given-row earlier (and_left (moves_in_width earlier) (move_in_width (at_receiver call)) wide)
-  given-row (earlier then at_sender call) wide =
+  given_row (earlier then at_receiver call) wide = given_row earlier (and_left (moves_in_width earlier) (move_in_width (at_receiver call)) wide)
+  given_row (earlier then at_sender call) wide =
       let w = and_left (moves_in_width earlier) (ids_fit call) wide in
       let first = ends.first.0 in
       let next = sender_next ends earlier in
@@ -169,7 +169,7 @@ module _ (ends : Ends) where
       row_same now (chunk_of ends earlier) first (next - first)
       (λ n _ h.
       ap or_empty
-      (submitted_on ends earlier call n ∙ ap (or_else (submitted_at ends earlier n)) (a.old-same n (omega (arith, next_least earlier))) ∙ or_else_none (submitted_at ends earlier n))) in
+      (submitted_on ends earlier call n ∙ ap (or_else (submitted_at ends earlier n)) (a.old_same n (omega (arith, next_least earlier))) ∙ or_else_none (submitted_at ends earlier n))) in
       let news : row now next a.more ≡ row (λ n. or_empty (new n)) next a.more =
       row_same now (λ n. or_empty (new n)) next a.more
       (λ n h _.
@@ -178,4 +178,4 @@ module _ (ends : Ends) where
       ap bytes_in (sent_more ends earlier call) ∙ bytes_more (sender_history ends earlier) e
       ∙ sym
       (row_split now first (next - first) a.more (sender_next ends (earlier then at_sender call) - first) long
-      ∙ rw at (rw (olds, news, a.new_are) (ap (λ (l : List ℕ). l ++ bytes_by e.asked e.answered) (sym (given-row earlier w)))))
+      ∙ rw at (rw (olds, news, a.new_are) (ap (λ (l : List ℕ). l ++ bytes_by e.asked e.answered) (sym (given_row earlier w)))))

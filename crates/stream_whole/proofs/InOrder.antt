@@ -19,11 +19,11 @@ use Rattle.stream_joined.specs.Moves.{Ends, Moves, receiver_history, sender_end}
 use Rattle.stream_joined.specs.Wire.{Joined}
 use Rattle.stream_joined.specs.Forgotten.{submitted_at}
 use Rattle.stream_joined.proofs.Halves.{receiver_run}
-use Rattle.stream_joined.proofs.Arrivals.{accepted-submitted}
+use Rattle.stream_joined.proofs.Arrivals.{accepted_submitted}
 use Rattle.stream_joined.proofs.Remembered.{nothing_forgotten}
 use Rattle.stream_whole.specs.Whole.{submitted, taken, sender_next, receiver_next, WholeAndInOrder}
 use Rattle.stream_whole.proofs.Rows.{row, row_split, row_pieces, there}
-use Rattle.stream_whole.proofs.Given.{or_empty, chunk_of, submitted_range, next_least, given-row}
+use Rattle.stream_whole.proofs.Given.{or_empty, chunk_of, submitted_range, next_least, given_row}
 
 module _ (ends : Ends) (moves : Moves) (j : Joined ends moves) where
   abbrev took : List Piece
@@ -34,14 +34,14 @@ module _ (ends : Ends) (moves : Moves) (j : Joined ends moves) where
   took_at k piece e =
       let o = in_order (receiver_run ends moves j.widths) in
       let number : piece.number ≡ ends.first.0 + k = omega (arith, o.as_numbered k piece e, ends.one_less) in
-      rw number at (accepted-submitted ends moves j piece.number piece.bytes (o.bytes-first k piece e))
+      rw number at (accepted_submitted ends moves j piece.number piece.bytes (o.bytes_first k piece e))
 
-  taken-row : taken ends moves ≡ row (chunk_of ends moves) ends.first.0 (length took)
-  taken-row = row_pieces (chunk_of ends moves) ends.first.0 took (λ k piece e. ap or_empty (took_at k piece e))
+  taken_row : taken ends moves ≡ row (chunk_of ends moves) ends.first.0 (length took)
+  taken_row = row_pieces (chunk_of ends moves) ends.first.0 took (λ k piece e. ap or_empty (took_at k piece e))
 
   -- no more were taken than given
-  took-few : length took ≤ sender_next ends moves - ends.first.0
-  took-few =
+  took_few : length took ≤ sender_next ends moves - ends.first.0
+  took_few =
       let given = sender_next ends moves - ends.first.0 in
       case
       (λ (h : length took ≤ given). h)
@@ -55,20 +55,20 @@ module _ (ends : Ends) (moves : Moves) (j : Joined ends moves) where
   begin =
       let given = sender_next ends moves - ends.first.0 in (
         row (chunk_of ends moves) (ends.first.0 + length took) (given - length took),
-        given-row ends moves j.widths ∙ row_split (chunk_of ends moves) ends.first.0 (length took) (given - length took) given (omega (arith, took-few))
-            ∙ ap (λ (l : List ℕ). l ++ row (chunk_of ends moves) (ends.first.0 + length took) (given - length took)) (sym taken-row),
+        given_row ends moves j.widths ∙ row_split (chunk_of ends moves) ends.first.0 (length took) (given - length took) given (omega (arith, took_few))
+            ∙ ap (λ (l : List ℕ). l ++ row (chunk_of ends moves) (ends.first.0 + length took) (given - length took)) (sym taken_row),
       )
 
   all : receiver_next ends moves ≡ sender_next ends moves → taken ends moves ≡ submitted ends moves
   all e =
       let o = in_order (receiver_run ends moves j.widths) in
-      let same : length took ≡ sender_next ends moves - ends.first.0 = omega (arith, o.next-is, ends.one_less) in
-      taken-row ∙ ap (row (chunk_of ends moves) ends.first.0) same ∙ sym (given-row ends moves j.widths)
+      let same : length took ≡ sender_next ends moves - ends.first.0 = omega (arith, o.next_is, ends.one_less) in
+      taken_row ∙ ap (row (chunk_of ends moves) ends.first.0) same ∙ sym (given_row ends moves j.widths)
 
 -- below next no number is unmade
-below-made : (s : Sender) (store : List ℕ) (n : ℕ) → n < s.next.0 → standing s store n ≡ unmade → ⊥
+below_made : (s : Sender) (store : List ℕ) (n : ℕ) → n < s.next.0 → standing s store n ≡ unmade → ⊥
 unfolding standing
-below-made s store n h e =
+below_made s store n h e =
     let e' = rw (lt-leb s.next.0 n h) at e in
     by_bool (is_waiting (mark_of s n))
     (λ t. let f = rw t at e' in let z : ◌≡◌ {A = ℕ} 0 1 = cc in omega arith)
@@ -90,10 +90,10 @@ whole_and_in_order ends moves j =
     record {
       takes_begin = begin ends moves j;
       takes_all = all ends moves j;
-      all-received = λ left n low high.
+      all_received = λ left n low high.
           (nothing_forgotten ends moves j).dropped_received n
           (record {
             from_first = low;
-            not_there = only_gone (standing kept.state kept.store n) (below-made kept.state kept.store n high) (left n).0 (left n).1;
+            not_there = only_gone (standing kept.state kept.store n) (below_made kept.state kept.store n high) (left n).0 (left n).1;
           });
     }

@@ -16,7 +16,7 @@ use Rattle.terms.specs.Answers.{Said, refusal, values}
 use Rattle.terms.proofs.Laws.{case}
 use Rattle.packet_read.specs.Reading.{fields_of, payload_of}
 use Rattle.receiver_calls.specs.Meaning.{standing, missing, unseen}
-use Rattle.receiver_calls.proofs.Laws.{accept-answer}
+use Rattle.receiver_calls.proofs.Laws.{accept_answer}
 use Rattle.sender_meaning.specs.Steps.{chunk_at}
 use Rattle.sender_meaning.proofs.Counts.{by_bool}
 use Rattle.sender_meaning.proofs.SubmittingChunks.{chunk_most}
@@ -34,19 +34,19 @@ use Rattle.stream_whole.specs.Whole.{answer_to, NoneTurnedAway}
 use Rattle.stream_whole.proofs.Given.{submitted_range}
 
 -- no chunk is longer than the chunk size
-chunk-short : (chunk n : ℕ) (call : S.Call) (next : ℕ) (says : Said) (bytes : List ℕ) → chunk_by chunk n call next says ≡ some bytes → length bytes ≤ chunk
-chunk-short chunk n (S.submit r to from sent) next (values given) bytes e =
+chunk_short : (chunk n : ℕ) (call : S.Call) (next : ℕ) (says : Said) (bytes : List ℕ) → chunk_by chunk n call next says ≡ some bytes → length bytes ≤ chunk
+chunk_short chunk n (S.submit r to from sent) next (values given) bytes e =
     by_bool (leb next n && ltb n (next + get_or given 0 0))
     (λ t.
     let f = rw t at e in
     let same : chunk_at chunk (n - next) sent ≡ bytes = cc in
     rw same at (chunk_most chunk (n - next) sent))
     (λ t. let f = rw t at e in some_not_none f refl)
-chunk-short chunk n (S.submit r to from sent) next (refusal why) bytes e = some_not_none e refl
-chunk-short chunk n (S.send clock output) next says bytes e = some_not_none e refl
-chunk-short chunk n (S.acks through nacks clock) next says bytes e = some_not_none e refl
-chunk-short chunk n (S.resend clock path) next says bytes e = some_not_none e refl
-chunk-short chunk n (S.fetch rank output) next says bytes e = some_not_none e refl
+chunk_short chunk n (S.submit r to from sent) next (refusal why) bytes e = some_not_none e refl
+chunk_short chunk n (S.send clock output) next says bytes e = some_not_none e refl
+chunk_short chunk n (S.acks through nacks clock) next says bytes e = some_not_none e refl
+chunk_short chunk n (S.resend clock path) next says bytes e = some_not_none e refl
+chunk_short chunk n (S.fetch rank output) next says bytes e = some_not_none e refl
 
 either_short : (most : ℕ) (a b : Option (List ℕ)) (bytes : List ℕ) → ((x : List ℕ) → a ≡ some x → length x ≤ most) → ((x : List ℕ) → b ≡ some x → length x ≤ most)
     → or_else a b ≡ some bytes → length bytes ≤ most
@@ -58,7 +58,7 @@ all_short : (chunk n : ℕ) (h : List S.Event) (bytes : List ℕ) → chunk_in c
 all_short chunk n [] bytes e = some_not_none e refl
 all_short chunk n (x ∷ h) bytes e =
     either_short chunk (chunk_by chunk n x.asked x.next x.answered) (chunk_in chunk n h) bytes
-    (λ b q. chunk-short chunk n x.asked x.next x.answered b q) (λ b q. all_short chunk n h b q) e
+    (λ b q. chunk_short chunk n x.asked x.next x.answered b q) (λ b q. all_short chunk n h b q) e
 
 module _ (ends : Ends) (moves : Moves) (j : Joined ends moves) (packet : List ℕ) (w : IsOneOf packet (packets_in (sender_history ends moves))) where
   abbrev number : ℕ
@@ -81,7 +81,7 @@ module _ (ends : Ends) (moves : Moves) (j : Joined ends moves) (packet : List �
       record {
         low = omega (arith, own, r.0, ends.one_less);
         below = omega (arith, own, r.1, width);
-        short = omega (arith, ap length a.reads.payload_read, all_short ends.chunk a.number (sender_history ends moves) a.bytes a.as_submitted, ends.slot-holds);
+        short = omega (arith, ap length a.reads.payload_read, all_short ends.chunk a.number (sender_history ends moves) a.bytes a.as_submitted, ends.slot_holds);
       }
 
   counts : (answer ≡ values []) ⊎ (Received ends moves number ⊎ (answer ≡ refusal 14))
@@ -91,13 +91,13 @@ module _ (ends : Ends) (moves : Moves) (j : Joined ends moves) (packet : List �
       let store = (receiver_end ends moves).store in
       let f = fits in
       case
-      (λ (a : number < next_of run). let t = (known run).taken-all number f.low a in inr (inl (came_received ends moves j number f.low (t.0, t.2))))
+      (λ (a : number < next_of run). let t = (known run).taken_all number f.low a in inr (inl (came_received ends moves j number f.low (t.0, t.2))))
       (λ (a : number < next_of run → ⊥).
       by_first (first run number)
       (λ z.
       let not_last : eqb number 4294967295 ≡ false = ne_eqb number 4294967295 (λ e. omega (arith, f.below)) in
       let room : ltb r.head.slot (length (payload_of packet)) ≡ false = le-ltb r.head.slot (length (payload_of packet)) (omega (arith, f.short, (known run).slot_is)) in
-      let is = accept-answer r (fields_of packet).seq_nro (payload_of packet) store (known run).sound in
+      let is = accept_answer r (fields_of packet).seq_nro (payload_of packet) store (known run).sound in
       let stands = (known run).stands number in
       let stands' = rw (le-ltb number (next_of run) (omega arith), z) at stands in
       case

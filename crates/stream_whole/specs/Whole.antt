@@ -56,7 +56,7 @@ module _ (ends : Ends) (moves : Moves) where
     -- and all of it where the next number to take is the sender's next
     pub takes_all : receiver_next ≡ sender_next → taken ≡ submitted
     -- where nothing waits or flies, every number that the sender gave is held or taken, with the bytes submitted
-    pub all-received : NothingLeft → (n : ℕ) → ends.first.0 ≤ n → n < sender_next → Received ends moves n
+    pub all_received : NothingLeft → (n : ℕ) → ends.first.0 ≤ n → n < sender_next → Received ends moves n
 
   -- what accept would answer to a packet now
   abbrev pub answer_to : List ℕ → Said

@@ -45,11 +45,11 @@ acked = refl
 -- and what is read in it
 arrives : Arrives (packet ∷ []) one (65 ∷ [])
 unfolding read_of options_in after_destination
-arrives = record { packet = packet; was-written = Memᴰ.head refl; number_read = refl; payload_read = refl }
+arrives = record { packet = packet; was_written = Memᴰ.head refl; number_read = refl; payload_read = refl }
 
 returns : Returns (ack ∷ []) 1 []
 unfolding read_of options_in after_destination
-returns = record { packet = ack; was-written = Memᴰ.head refl; through_read = refl; nacks_read = refl }
+returns = record { packet = ack; was_written = Memᴰ.head refl; through_read = refl; nacks_read = refl }
 
 came : Arrives (packets_in (sender_history ends sent)) one (65 ∷ [])
 came = rw packets arrives

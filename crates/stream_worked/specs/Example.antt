@@ -22,15 +22,15 @@ ends = record {
   chunk = 1;
   count = 1;
   send_store = replicate 1045 0;
-  sender-started = refl;
+  sender_started = refl;
   first_width = refl;
   -- after 0, slots of one byte
   s = record { 0 = 0 };
   slot = 1;
   recv_store = replicate 512 0;
-  receiver-started = refl;
+  receiver_started = refl;
   one_less = refl;
-  slot-holds = omega arith;
+  slot_holds = omega arith;
 }
 
 abbrev pub id : StreamId

@@ -62,8 +62,8 @@ back R.RecordCut = (refl, refl)
 back R.LengthUnfit = (refl, refl)
 back R.TimeLarge = (refl, refl)
 
-pub number-one : (a b : Refusal) → number_of a ≡ number_of b → a ≡ b
-number-one a b e = sym (back a).0 ∙ ap refusal_of e ∙ (back b).0
+pub number_one : (a b : Refusal) → number_of a ≡ number_of b → a ≡ b
+number_one a b e = sym (back a).0 ∙ ap refusal_of e ∙ (back b).0
 
-pub number-some : (r : Refusal) → 0 < number_of r
-number-some r = ltb-true 0 (number_of r) (back r).1
+pub number_some : (r : Refusal) → 0 < number_of r
+number_some r = ltb-true 0 (number_of r) (back r).1

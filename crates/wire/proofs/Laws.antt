@@ -16,20 +16,20 @@ number_step k at s h =
     let n : length (take k (drop (suc at) s)) ≡ k = length-take-le k (drop (suc at) s) (simp length-drop (omega arith)) in
     rw (drop-cons s at 0 (omega arith), n, add-one)
 
-number-next : (k at i : ℕ) (s : List ℕ) → at + i + suc k ≤ length s
+number_next : (k at i : ℕ) (s : List ℕ) → at + i + suc k ≤ length s
     → number_at (suc k) (at + i) s ≡ get_or s (at + i) 0 * 256 ^ k + number_at k (at + suc i) s
-number-next k at i s h = let e : at + i + 1 ≡ at + suc i = omega arith in rw (← e) (number_step k (at + i) s h)
+number_next k at i s h = let e : at + i + 1 ≡ at + suc i = omega arith in rw (← e) (number_step k (at + i) s h)
 
 pub number1 : (at : ℕ) (s : List ℕ) → at + 1 ≤ length s → get_or s at 0 ≡ number_at 1 at s
 number1 at s h = omega (arith, number_step 0 at s h)
 
 pub number2 : (at : ℕ) (s : List ℕ) → at + 2 ≤ length s → get_or s at 0 * 256 + get_or s (at + 1) 0 ≡ number_at 2 at s
-number2 at s h = omega (arith, number_step 1 at s h, number-next 0 at 1 s (omega arith))
+number2 at s h = omega (arith, number_step 1 at s h, number_next 0 at 1 s (omega arith))
 
 pub number4 : (at : ℕ) (s : List ℕ) → at + 4 ≤ length s
     → get_or s at 0 * 16777216 + get_or s (at + 1) 0 * 65536 + get_or s (at + 2) 0 * 256 + get_or s (at + 3) 0 ≡ number_at 4 at s
 number4 at s h =
-    omega (arith, number_step 3 at s h, number-next 2 at 1 s (omega arith), number-next 1 at 2 s (omega arith), number-next 0 at 3 s (omega arith))
+    omega (arith, number_step 3 at s h, number_next 2 at 1 s (omega arith), number_next 1 at 2 s (omega arith), number_next 0 at 3 s (omega arith))
 
 -- bytes stored one by one from the front
 pub stored : (bytes rest : List ℕ) → length bytes ≤ length rest → sets rest 0 bytes ≡ bytes at_front_of rest
@@ -40,13 +40,13 @@ pub copied_more : (d s : List ℕ) (j : ℕ) → j < length d → j < length s �
 copied_more d s j a b =
     rw add-one (subst (λ (m : ℕ). set (paste d 0 s j) m (get_or s j 0) ≡ paste d 0 s (suc j)) (zero-add j) (paste-suc d 0 s j 0 (omega arith) b))
 
-pub length-bytes : (k x : ℕ) → length (bytes_of k x) ≡ k
-length-bytes zero x = refl
-length-bytes (suc k) x = ap suc (length-bytes k x)
+pub length_bytes : (k x : ℕ) → length (bytes_of k x) ≡ k
+length_bytes zero x = refl
+length_bytes (suc k) x = ap suc (length_bytes k x)
 
-pub length-each : (k : ℕ) (xs : List ℕ) → length (bytes_of_each k xs) ≡ k * length xs
-length-each k [] = sym (mul-zero k)
-length-each k (x ∷ xs) = rw (length-append, length-bytes, length-each k xs, mul-suc) (add_comm k (k * length xs))
+pub length_each : (k : ℕ) (xs : List ℕ) → length (bytes_of_each k xs) ≡ k * length xs
+length_each k [] = sym (mul-zero k)
+length_each k (x ∷ xs) = rw (length-append, length_bytes, length_each k xs, mul-suc) (add_comm k (k * length xs))
 
 pub each_append : (k : ℕ) (xs ys : List ℕ) → bytes_of_each k (xs ++ ys) ≡ bytes_of_each k xs ++ bytes_of_each k ys
 each_append k [] ys = refl

@@ -29,8 +29,8 @@ pub record Front (w o out : List ℕ) (n : ℕ) : Type 0 where
   pub long : length w ≡ n
   pub fits : n ≤ length o
 
-pub front-first : (w o out : List ℕ) (n : ℕ) → out ≡ w at_front_of o → length w ≡ n → n ≤ length o → Front w o out n
-front-first w o out n e l h = record { begins = e; long = l; fits = h }
+pub front_first : (w o out : List ℕ) (n : ℕ) → out ≡ w at_front_of o → length w ≡ n → n ≤ length o → Front w o out n
+front_first w o out n e l h = record { begins = e; long = l; fits = h }
 
 -- a list with a front keeps its length
 pub front_length : {w o out : List ℕ} {n : ℕ} → Front w o out n → length out ≡ length o
@@ -48,9 +48,9 @@ front_more {w} {o} {out} {n} f b {last} h e = record {
 pub front_at : {w o out : List ℕ} {n : ℕ} (m : ℕ) → n ≡ m → Front w o out n → Front w o out m
 front_at {w} {o} {out} m e f = subst (Front w o out) e f
 
-pub front-inside : {w o out : List ℕ} {n : ℕ} → Front w o out n → n ≤ length out
-front-inside f = omega (arith, f.fits, front_length f)
+pub front_inside : {w o out : List ℕ} {n : ℕ} → Front w o out n → n ≤ length out
+front_inside f = omega (arith, f.fits, front_length f)
 
 -- what still fits o fits the rest behind the front
-pub front-room : {w o out : List ℕ} {n : ℕ} → Front w o out n → (k : ℕ) → n + k ≤ length o → k ≤ length (take (length out - n) (drop n out))
-front-room f k h = simp (length-take, length-drop) (omega (arith, front_length f))
+pub front_room : {w o out : List ℕ} {n : ℕ} → Front w o out n → (k : ℕ) → n + k ≤ length o → k ≤ length (take (length out - n) (drop n out))
+front_room f k h = simp (length-take, length-drop) (omega (arith, front_length f))

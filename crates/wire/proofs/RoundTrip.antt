@@ -13,7 +13,7 @@ use lib.Seq.{take_at, drop_at, drop-drop, take-append-le, drop-append-le, length
 use Rattle.terms.specs.Lists.{all}
 use Rattle.terms.proofs.Laws.{and_left, and_right}
 use Rattle.wire.specs.BigEndian.{is_byte, spelled, bytes_of, bytes_of_each, number_at, numbers_at}
-use Rattle.wire.proofs.Laws.{length-bytes}
+use Rattle.wire.proofs.Laws.{length_bytes}
 
 power_some : (k : ℕ) → 0 < 256 ^ k
 power_some zero = omega arith
@@ -30,12 +30,12 @@ spelled_cut (suc k) x =
     let c : x % B < B = mod-lt x (power_some k) in
     let d : q % 256 * B + x % B < 256 * B = omega (arith, c, mul-le-mul_right B (mod-lt q {m = 256} (omega arith))) in
     let e : q / 256 * (256 * B) + (q % 256 * B + x % B) ≡ x = omega (arith, a, ap (λ (m : ℕ). m * B) b) in
-    rw (length-bytes k x, spelled_cut k x, pow-succ' 256 k)
+    rw (length_bytes k x, spelled_cut k x, pow-succ' 256 k)
     (sym (mod-eq_of_lt d) ∙ sym (mul-add-mod_self_right (q / 256) (256 * B) (q % 256 * B + x % B)) ∙ ap (λ (m : ℕ). m % (256 * B)) e)
 
 -- the bytes of a number that fits its width spell it
-pub spelled-bytes : (k x : ℕ) → x < 256 ^ k → spelled (bytes_of k x) ≡ x
-spelled-bytes k x h = spelled_cut k x ∙ mod-eq_of_lt h
+pub spelled_bytes : (k x : ℕ) → x < 256 ^ k → spelled (bytes_of k x) ≡ x
+spelled_bytes k x h = spelled_cut k x ∙ mod-eq_of_lt h
 
 -- bytes spell a number that fits as many bytes
 pub spelled_small : (l : List ℕ) → all is_byte l ≡ true → spelled l < 256 ^ length l
@@ -53,13 +53,13 @@ bytes_cut (suc k) c y =
     rw (e, d, mul-add-mod_self_right c 256 (y / 256 ^ k), bytes_cut k (c * 256) y)
 
 -- the number that bytes spell has those bytes
-pub bytes-spelled : (l : List ℕ) → all is_byte l ≡ true → bytes_of (length l) (spelled l) ≡ l
-bytes-spelled [] h = refl
-bytes-spelled (b ∷ l) h =
+pub bytes_spelled : (l : List ℕ) → all is_byte l ≡ true → bytes_of (length l) (spelled l) ≡ l
+bytes_spelled [] h = refl
+bytes_spelled (b ∷ l) h =
     let low = ltb-true b 256 (and_left (is_byte b) (all is_byte l) h) in
     let rest = and_right (is_byte b) (all is_byte l) h in
     let d : (b * 256 ^ length l + spelled l) / 256 ^ length l ≡ b + spelled l / 256 ^ length l = mul-add-div_right (power_some (length l)) b (spelled l) in
-    rw (d, div-eq_of_lt (spelled_small l rest), add-zero, mod-eq_of_lt low, bytes_cut (length l) b (spelled l), bytes-spelled l rest)
+    rw (d, div-eq_of_lt (spelled_small l rest), add-zero, mod-eq_of_lt low, bytes_cut (length l) b (spelled l), bytes_spelled l rest)
 
 -- a test that passes at each element passes at each of a part's
 pub all_take : (t : ℕ → Bool) (n : ℕ) (l : List ℕ) → all t l ≡ true → all t (take n l) ≡ true
@@ -83,7 +83,7 @@ module _ (p : List ℕ) (bytes : all is_byte p ≡ true) where
   peel k at h =
       let part = take k (drop at p) in
       let long : length part ≡ k = length-take-le k (drop at p) (simp length-drop (omega arith)) in
-      let whole : bytes_of k (spelled part) ≡ part = rw long at (bytes-spelled part (all_take is_byte k (drop at p) (all_drop is_byte at p bytes))) in
+      let whole : bytes_of k (spelled part) ≡ part = rw long at (bytes_spelled part (all_take is_byte k (drop at p) (all_drop is_byte at p bytes))) in
       rw (whole, ← drop-drop k at p) (take-append-drop k (drop at p))
 
   pub peel_each : (k n at : ℕ) → at + k * n ≤ length p → bytes_of_each k (numbers_at k n at p) ++ drop (at + k * n) p ≡ drop at p
@@ -93,9 +93,9 @@ module _ (p : List ℕ) (bytes : all is_byte p ≡ true) where
       rw (append_assoc, e, peel_each k n (at + k) (rw e at h)) (peel k at (omega arith))
 
 -- The other way: numbers that stand in p are read as they are.
-pub length-numbers : (k n at : ℕ) (p : List ℕ) → length (numbers_at k n at p) ≡ n
-length-numbers k zero at p = refl
-length-numbers k (suc n) at p = ap suc (length-numbers k n (at + k) p)
+pub length_numbers : (k n at : ℕ) (p : List ℕ) → length (numbers_at k n at p) ≡ n
+length_numbers k zero at p = refl
+length_numbers k (suc n) at p = ap suc (length_numbers k n (at + k) p)
 
 -- past the n bytes w that stand at `at`
 pub past : (at n to : ℕ) (p w r : List ℕ) → drop at p ≡ w ++ r → length w ≡ n → at + n ≡ to → drop to p ≡ r
@@ -107,7 +107,7 @@ part_here at n p w r e l = rw e (take_at w r n l)
 
 -- and where they are a number's, the number is read
 pub number_here : (k x at : ℕ) (p r : List ℕ) → x < 256 ^ k → drop at p ≡ bytes_of k x ++ r → number_at k at p ≡ x
-number_here k x at p r h e = rw (part_here at k p (bytes_of k x) r e (length-bytes k x)) (spelled-bytes k x h)
+number_here k x at p r h e = rw (part_here at k p (bytes_of k x) r e (length_bytes k x)) (spelled_bytes k x h)
 
 -- x fits k bytes
 abbrev pub fits : ℕ → ℕ → Bool
@@ -120,23 +120,23 @@ numbers_here k [] at p r h e = refl
 numbers_here k (x ∷ xs) at p r h e =
     let f : drop at p ≡ bytes_of k x ++ (bytes_of_each k xs ++ r) = e ∙ append_assoc (bytes_of k x) (bytes_of_each k xs) r in
     let n = number_here k x at p (bytes_of_each k xs ++ r) (ltb-true x (256 ^ k) (and_left (fits k x) (all (fits k) xs) h)) f in
-    let g = past at k (at + k) p (bytes_of k x) (bytes_of_each k xs ++ r) f (length-bytes k x) refl in
+    let g = past at k (at + k) p (bytes_of k x) (bytes_of_each k xs ++ r) f (length_bytes k x) refl in
     rw (n, numbers_here k xs (at + k) p r (and_right (fits k x) (all (fits k) xs) h) g)
 
 -- four bytes each, from the front
-pub each-numbers : (xs r : List ℕ) → all (fits 4) xs ≡ true → numbers_at 4 (length xs) 0 (bytes_of_each 4 xs ++ r) ≡ xs
-each-numbers xs r h = numbers_here 4 xs 0 (bytes_of_each 4 xs ++ r) r h refl
+pub each_numbers : (xs r : List ℕ) → all (fits 4) xs ≡ true → numbers_at 4 (length xs) 0 (bytes_of_each 4 xs ++ r) ≡ xs
+each_numbers xs r h = numbers_here 4 xs 0 (bytes_of_each 4 xs ++ r) r h refl
 
 -- a number that stands in d, where p goes on from a as d
-pub number-moved : (k i a : ℕ) (p d r : List ℕ) → drop a p ≡ d ++ r → i + k ≤ length d → number_at k (a + i) p ≡ number_at k i d
-number-moved k i a p d r e h =
+pub number_moved : (k i a : ℕ) (p d r : List ℕ) → drop a p ≡ d ++ r → i + k ≤ length d → number_at k (a + i) p ≡ number_at k i d
+number_moved k i a p d r e h =
     let long : k ≤ length (drop i d) = simp length-drop (omega arith) in
     rw (← drop-drop i a p, e, drop-append-le i d r (omega arith), take-append-le k (drop i d) r long)
 
 -- and several of them, one behind the other
-pub numbers-moved : (k n i a : ℕ) (p d r : List ℕ) → drop a p ≡ d ++ r → i + k * n ≤ length d → numbers_at k n (a + i) p ≡ numbers_at k n i d
-numbers-moved k zero i a p d r e h = refl
-numbers-moved k (suc n) i a p d r e h =
+pub numbers_moved : (k n i a : ℕ) (p d r : List ℕ) → drop a p ≡ d ++ r → i + k * n ≤ length d → numbers_at k n (a + i) p ≡ numbers_at k n i d
+numbers_moved k zero i a p d r e h = refl
+numbers_moved k (suc n) i a p d r e h =
     let s : k * suc n ≡ k + k * n = omega arith in
     let next : a + i + k ≡ a + (i + k) = omega arith in
-    rw (number-moved k i a p d r e (omega arith), next, numbers-moved k n (i + k) a p d r e (omega arith))
+    rw (number_moved k i a p d r e (omega arith), next, numbers_moved k n (i + k) a p d r e (omega arith))

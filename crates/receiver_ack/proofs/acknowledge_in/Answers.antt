@@ -5,7 +5,7 @@ use Rattle.receiver_state.specs.Answers.{◌over◌}
 use Rattle.receiver_state.specs.Rules.{rules_of, slot_fits}
 use Rattle.receiver_state.proofs.Facts.{ruled}
 use Rattle.receiver_ack.specs.Acknowledge.{said_ack}
-use Rattle.receiver_ack.proofs.Ways.{ack_broken, ack-unfit, ack_plain}
+use Rattle.receiver_ack.proofs.Ways.{ack_broken, ack_unfit, ack_plain}
 use Rattle.receiver_ack.proofs.acknowledge_in.Goals.{Else-not-slot_fits}
 use Rattle.receiver_ack.proofs.acknowledge_in.Goals as goal
 
@@ -23,7 +23,7 @@ returns-then-not-rules_hold c = let a = c.args in
 
 pub returns-then-not-slot_fits : goal.returns-then-not-slot_fits
 returns-then-not-slot_fits c = let a = c.args in
-    ack-unfit (a.h over a.marks.now) a.send a.recv a.output.now
+    ack_unfit (a.h over a.marks.now) a.send a.recv a.output.now
     (sym c.rules_hold.ensures ∙ c.if-not-rules_hold.false) (sym c.slot_fits.ensures ∙ c.if-not-slot_fits.true)
 
 pub plain-requires : goal.plain-requires

@@ -6,7 +6,7 @@ use lib.ListN.{length}
 use Rattle.terms.specs.Answers.{values, said}
 use Rattle.receiver_state.specs.Answers.{◌over◌}
 use Rattle.receiver_calls.specs.Accept.{accept_said}
-use Rattle.receiver_calls.proofs.Outcomes.{accept-kept, accept-made, Passed, passed, slot_in}
+use Rattle.receiver_calls.proofs.Outcomes.{accept_kept, accept_made, Passed, passed, slot_in}
 use Rattle.receiver_calls.proofs.accept_in.Goals.{In-Done}
 use Rattle.receiver_calls.proofs.accept_in.Goals as goal
 
@@ -45,9 +45,9 @@ overflow_cast-marks c = let p = ok (goal.at.overflow_cast-marks c).In-Done in
 
 pub returns-in-Refused : goal.returns-in-Refused
 returns-in-Refused c = let a = c.args in
-    accept-kept (a.h over a.marks.now) a.number a.payload.now a.store.now c.judge_accept-answer.result c.judge_accept-answer.ensures _ c.in-Refused.is
+    accept_kept (a.h over a.marks.now) a.number a.payload.now a.store.now c.judge_accept-answer.result c.judge_accept-answer.ensures _ c.in-Refused.is
 
 pub returns-in-Done : goal.returns-in-Done
 returns-in-Done c = let a = c.args in
-    accept-made (a.h over a.marks.now) a.number a.payload.now a.store.now c.judge_accept-answer.result c.judge_accept-answer.ensures
+    accept_made (a.h over a.marks.now) a.number a.payload.now a.store.now c.judge_accept-answer.result c.judge_accept-answer.ensures
     c.in-Done.is c.hold-after.result c.hold-after.ensures c.put_bytes.new.rest c.put_bytes.ensures

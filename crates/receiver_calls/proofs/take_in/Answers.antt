@@ -7,7 +7,7 @@ use Rattle.terms.specs.Answers.{values, said_of}
 use Rattle.receiver_state.specs.Answers.{◌over◌}
 use Rattle.receiver_state.specs.Slots.{length_of}
 use Rattle.receiver_calls.specs.Take.{next_mark, take_said}
-use Rattle.receiver_calls.proofs.Outcomes.{take-kept, take-made, Gives, gives, slot_in}
+use Rattle.receiver_calls.proofs.Outcomes.{take_kept, take_made, Gives, gives, slot_in}
 use Rattle.receiver_calls.proofs.take_in.Goals.{In-Bytes}
 use Rattle.receiver_calls.proofs.take_in.Goals as goal
 
@@ -49,10 +49,10 @@ release-after-requires c = let p = ok (goal.at.release-after-requires c).In-Byte
 
 pub returns-in-Refused : goal.returns-in-Refused
 returns-in-Refused c = let a = c.args in
-    take-kept (a.h over a.marks.now) a.store.now a.output.now c.judge_take-answer.result c.judge_take-answer.ensures _ c.in-Refused.is
+    take_kept (a.h over a.marks.now) a.store.now a.output.now c.judge_take-answer.result c.judge_take-answer.ensures _ c.in-Refused.is
 
 pub returns-in-Bytes : goal.returns-in-Bytes
 returns-in-Bytes c = let a = c.args in
-    take-made (a.h over a.marks.now) a.store.now a.output.now c.in-Bytes.size (given (goal.at.returns-in-Bytes c).In-Bytes) (counted (goal.at.returns-in-Bytes c).In-Bytes) c.release-after.result c.release-after.ensures
+    take_made (a.h over a.marks.now) a.store.now a.output.now c.in-Bytes.size (given (goal.at.returns-in-Bytes c).In-Bytes) (counted (goal.at.returns-in-Bytes c).In-Bytes) c.release-after.result c.release-after.ensures
     c.put_bytes.new.rest
     c.put_bytes.ensures

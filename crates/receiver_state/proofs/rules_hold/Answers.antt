@@ -2,7 +2,7 @@
 use mathlib.Core.Path.{sym, ◌∙◌}
 use native.Mathlib.Omega.{arith}
 use Rattle.terms.proofs.Laws.{refuted}
-use Rattle.receiver_state.proofs.Facts.{ruled, held_broken, rules-left}
+use Rattle.receiver_state.proofs.Facts.{ruled, held_broken, rules_left}
 use Rattle.receiver_state.proofs.rules_hold.Goals as goal
 
 pub returns-then-next-lt1 : goal.returns-then-next-lt1
@@ -25,4 +25,4 @@ returns-then-not-highest_held c = held_broken _ (sym c.highest_held.ensures ∙ 
 
 pub returns : goal.returns
 returns c = c.slots_hold.ensures
-    ∙ sym (rules-left _ (omega arith) (omega arith) (omega arith) (omega arith) (omega arith) (sym c.highest_held.ensures ∙ c.if-not-highest_held.false))
+    ∙ sym (rules_left _ (omega arith) (omega arith) (omega arith) (omega arith) (omega arith) (sym c.highest_held.ensures ∙ c.if-not-highest_held.false))

@@ -9,7 +9,7 @@ use Rattle.receiver_state.specs.Answers.{◌over◌}
 use Rattle.receiver_state.specs.Rules.{rules_of, slot_fits}
 use Rattle.receiver_state.proofs.Facts.{ruled}
 use Rattle.receiver_why.specs.Reasons.{below_start, was_taken, is_ready, behind_gap, never_came, not_yet_seen, beyond_span}
-use Rattle.receiver_why.proofs.Cases.{below-is, taken_is, beyond_is, unseen-is, never_is, gap_is, ready_is}
+use Rattle.receiver_why.proofs.Cases.{below_is, taken_is, beyond_is, unseen_is, never_is, gap_is, ready_is}
 use Rattle.receiver_why.proofs.Ways.{why_11, why_10, why_last, why_case}
 use Rattle.receiver_why.proofs.stands.Goals.{Else-not-slot_fits}
 use Rattle.receiver_why.proofs.stands.Goals as goal
@@ -32,7 +32,7 @@ pub returns-then-number : goal.returns-then-number
 returns-then-number c = let j = judged (goal.at.returns-then-number c).Else-not-slot_fits in why_last _ _ j.0 j.1 c.if-number.true
 
 pub returns-then-number-start : goal.returns-then-number-start
-returns-then-number-start c = let j = judged (goal.at.returns-then-number-start c).Else-not-slot_fits in why_case _ _ j.0 j.1 c.if-number.false below_start (below-is _ _ (omega arith))
+returns-then-number-start c = let j = judged (goal.at.returns-then-number-start c).Else-not-slot_fits in why_case _ _ j.0 j.1 c.if-number.false below_start (below_is _ _ (omega arith))
 
 pub returns-then-number-next : goal.returns-then-number-next
 returns-then-number-next c = let j = judged (goal.at.returns-then-number-next c).Else-not-slot_fits in
@@ -44,7 +44,7 @@ returns-then-number-next-ge512 c = let j = judged (goal.at.returns-then-number-n
 
 pub returns-then-number-highest : goal.returns-then-number-highest
 returns-then-number-highest c = let j = judged (goal.at.returns-then-number-highest c).Else-not-slot_fits in
-    why_case _ _ j.0 j.1 c.if-number.false not_yet_seen (unseen-is _ _ (omega arith) (omega arith) (omega arith) (omega arith))
+    why_case _ _ j.0 j.1 c.if-number.false not_yet_seen (unseen_is _ _ (omega arith) (omega arith) (omega arith) (omega arith))
 
 pub returns-then-marks-at-eq0 : goal.returns-then-marks-at-eq0
 returns-then-marks-at-eq0 c = let j = judged (goal.at.returns-then-marks-at-eq0 c).Else-not-slot_fits in

@@ -3,7 +3,7 @@ use mathlib.Core.Path.{sym, ◌∙◌}
 use Prim.Native.Nat.{◌≤◌}
 use lib.ListN.{length}
 use lib.Seq.{length-take-le}
-use Rattle.replay_arrival.proofs.Ways.{acks_none, acks-some, nacks_inside}
+use Rattle.replay_arrival.proofs.Ways.{acks_none, acks_some, nacks_inside}
 use borrow.Author.Rules.{rules}
 use Rattle.replay_arrival.proofs.acks_here.Goals as goal
 
@@ -23,5 +23,5 @@ slice_bounds-acks-end c = let called = c.nack_numbers-count in
 pub returns : goal.returns
 returns c = let a = c.args in
     let called = c.acks-acked in
-    acks-some a.p a.packet.now a.clock a.sender c.requires (sym c.has.ensures ∙ c.if-has.false) _ c.nack_numbers-count.ensures.1
+    acks_some a.p a.packet.now a.clock a.sender c.requires (sym c.has.ensures ∙ c.if-has.false) _ c.nack_numbers-count.ensures.1
     called.result.answer called.result.state called.ensures

@@ -8,10 +8,10 @@ use Rattle.sender_check.proofs.Check.{alone_of, tests_left}
 use Rattle.sender_check.proofs.rules_hold.Goals as goal
 
 pub returns-then-next-lt1 : goal.returns-then-next-lt1
-returns-then-next-lt1 c = refuted _ (λ t. let r = ruled _ t in omega (arith, r.next-some))
+returns-then-next-lt1 c = refuted _ (λ t. let r = ruled _ t in omega (arith, r.next_some))
 
 pub returns-then-window-lt1 : goal.returns-then-window-lt1
-returns-then-window-lt1 c = refuted _ (λ t. let r = ruled _ t in omega (arith, r.window-some))
+returns-then-window-lt1 c = refuted _ (λ t. let r = ruled _ t in omega (arith, r.window_some))
 
 pub returns-then-window-gt128 : goal.returns-then-window-gt128
 returns-then-window-gt128 c = refuted _ (λ t. let r = ruled _ t in omega (arith, r.window_most))

@@ -14,7 +14,7 @@ use Rattle.sender_state.specs.Numbers.{in_flight, size_of, marked_with}
 use Rattle.sender_send.specs.Fetch.{fetch_said, fetch_of}
 use Rattle.sender_send.proofs.Ranks.{rank_missing, Ranked, ranked_there}
 use Rattle.sender_state.proofs.Search.{tidy}
-use Rattle.sender_send.proofs.Outcomes.{fetch-made}
+use Rattle.sender_send.proofs.Outcomes.{fetch_made}
 use Rattle.sender_send.proofs.fetch.Goals.{After-valid}
 use Rattle.sender_send.proofs.fetch.Goals.{Else-not-sizes_fit}
 use Rattle.sender_send.proofs.fetch.Goals.{Else-number}
@@ -108,5 +108,5 @@ unfolding fetch_said
 returns c = let a = c.args in
     let j = judged (goal.at.returns c).Else-not-sizes_fit in
     let said : fetch_said a.s a.rank (length a.store.now) (length a.output.now) ≡ values (size_of a.s (in_flight a.s ! a.rank) ∷ []) = simp (j.0, j.1, lt-leb _ _ (found (goal.at.returns c).Else-number).inside, le-ltb (length a.output.now) (size_of a.s (in_flight a.s ! a.rank)) (omega (arith, same (goal.at.returns c).After-place_of-at, c.if-size-output.false))) in
-    fetch-made a.s a.rank a.store.now a.output.now (a.s.lengths ! c.place_of-at.result) c.place_of-at.result said (same (goal.at.returns c).After-place_of-at)
+    fetch_made a.s a.rank a.store.now a.output.now (a.s.lengths ! c.place_of-at.result) c.place_of-at.result said (same (goal.at.returns c).After-place_of-at)
     (c.place_of-at.ensures ∙ ap (place_of a.s.numbers) (found (goal.at.returns c).Else-number).is) _ c.put_packet.ensures

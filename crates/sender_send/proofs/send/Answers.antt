@@ -11,7 +11,7 @@ use Rattle.sender_state.proofs.Facts.{ruled, packet_in_lem}
 use Rattle.sender_state.specs.Numbers.{waiting, size_of}
 use Rattle.sender_send.specs.Send.{said_sent, send_said, moved}
 use Rattle.sender_send.proofs.Ranks.{Ranked, ranked_of}
-use Rattle.sender_send.proofs.Outcomes.{Leaves, leaves, send-kept, send-made}
+use Rattle.sender_send.proofs.Outcomes.{Leaves, leaves, send_kept, send_made}
 use borrow.Author.Rules.{rules}
 use Rattle.sender_send.proofs.send.Goals.{In-Packet}
 use Rattle.sender_send.proofs.send.Goals.{After-place_of-at}
@@ -53,7 +53,7 @@ put_packet-requires c = let a = c.args in
     let place = place_of a.s.numbers (waiting a.s ! 0) in
     let stored = (found (goal.at.put_packet-requires c).In-Packet).marked in
     let inside = packet_in_lem a.s (table (goal.at.put_packet-requires c).In-Packet) (ruled a.s (ok (goal.at.put_packet-requires c).In-Packet).keeps) (length a.store.now) place (ok (goal.at.put_packet-requires c).In-Packet).fits (found (goal.at.put_packet-requires c).In-Packet).place (λ z. omega arith) in
-    (rw (place_is (goal.at.put_packet-requires c).After-place_of-at, size_is (goal.at.put_packet-requires c).In-Packet) inside, rw (size_is (goal.at.put_packet-requires c).In-Packet) (ok (goal.at.put_packet-requires c).In-Packet).room-is)
+    (rw (place_is (goal.at.put_packet-requires c).After-place_of-at, size_is (goal.at.put_packet-requires c).In-Packet) inside, rw (size_is (goal.at.put_packet-requires c).In-Packet) (ok (goal.at.put_packet-requires c).In-Packet).room_is)
 
 pub overflow_add-clock : goal.overflow_add-clock
 overflow_add-clock c = omega (arith, (ok (goal.at.overflow_add-clock c).In-Packet).clock_most, c.rto.ensures, rto_most c.args.s.timing)
@@ -63,9 +63,9 @@ departs-after-requires c = rw (place_is (goal.at.departs-after-requires c).After
 
 pub returns-in-Refused : goal.returns-in-Refused
 returns-in-Refused c = let a = c.args in
-    send-kept a.s a.clock a.store.now a.output.now c.judge_send-answer.result c.judge_send-answer.ensures _ c.in-Refused.is
+    send_kept a.s a.clock a.store.now a.output.now c.judge_send-answer.result c.judge_send-answer.ensures _ c.in-Refused.is
 
 pub returns-in-Packet : goal.returns-in-Packet
 returns-in-Packet c = let a = c.args in
-    send-made a.s a.clock a.store.now a.output.now _ _ c.place_of-at.result (told (goal.at.returns-in-Packet c).In-Packet) (number_is (goal.at.returns-in-Packet c).In-Packet) (size_is (goal.at.returns-in-Packet c).In-Packet) (place_is (goal.at.returns-in-Packet c).After-place_of-at) _ c.put_packet.ensures _
+    send_made a.s a.clock a.store.now a.output.now _ _ c.place_of-at.result (told (goal.at.returns-in-Packet c).In-Packet) (number_is (goal.at.returns-in-Packet c).In-Packet) (size_is (goal.at.returns-in-Packet c).In-Packet) (place_is (goal.at.returns-in-Packet c).After-place_of-at) _ c.put_packet.ensures _
     (c.departs-after.ensures ∙ ap (moved a.s c.place_of-at.result a.clock) (c.arm-timer.ensures ∙ rw c.rto.ensures))

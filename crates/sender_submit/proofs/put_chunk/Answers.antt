@@ -3,7 +3,7 @@ use Prim.Native.Nat.{◌+◌, ◌≤◌}
 use native.Mathlib.Omega.{arith}
 use lib.ListN.{length}
 use Rattle.sender_state.specs.Numbers.{offset_of}
-use Rattle.sender_submit.proofs.Ways.{never_refused, chunk-long, chunk-short, chunk_laid}
+use Rattle.sender_submit.proofs.Ways.{never_refused, chunk_long, chunk_short, chunk_laid}
 use Rattle.sender_submit.proofs.put_chunk.Goals.{Start}
 use Rattle.sender_submit.proofs.put_chunk.Goals as goal
 
@@ -17,7 +17,7 @@ pub overflow_cast-result : goal.overflow_cast-result
 overflow_cast-result c = let a = c.args in
     omega (
       arith,
-      chunk-short a.acks a.nacks.now c.requires.0 a.send a.recv a.number a.payload.now a.store.now c.write.new.output (offset_of a.chunk a.at) c.write.result
+      chunk_short a.acks a.nacks.now c.requires.0 a.send a.recv a.number a.payload.now a.store.now c.write.new.output (offset_of a.chunk a.at) c.write.result
           (short (goal.at.overflow_cast-result c).Start) (inside (goal.at.overflow_cast-result c).Start) c.write.ensures.result_value c.write.ensures.output_after c.in-Written.length c.in-Written.field-1 c.in-Written.is,
     )
 
@@ -32,7 +32,7 @@ returns-in-Written c =
     let a = c.args in
     let s = (goal.at.returns-in-Written c).Start in
     record {
-      value = chunk-long a.acks a.nacks.now c.requires.0 a.send a.recv a.number a.payload.now a.store.now c.write.new.output (offset_of a.chunk a.at) c.write.result
+      value = chunk_long a.acks a.nacks.now c.requires.0 a.send a.recv a.number a.payload.now a.store.now c.write.new.output (offset_of a.chunk a.at) c.write.result
           (short s) (inside s) c.write.ensures.result_value c.write.ensures.output_after _ _ c.in-Written.is;
       store_after = chunk_laid a.acks a.nacks.now c.requires.0 a.send a.recv a.number a.payload.now a.store.now c.write.new.output (offset_of a.chunk a.at) c.write.result
           (short s) (inside s) c.write.ensures.result_value c.write.ensures.output_after;

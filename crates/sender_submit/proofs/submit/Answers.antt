@@ -1,5 +1,5 @@
 -- `sender_submit::submit` meets its contract: the judge refuses, or counts packets for which there is room. Assumes nothing.
-use Rattle.sender_submit.proofs.Ways.{submit-kept, submit_asks, submit-made}
+use Rattle.sender_submit.proofs.Ways.{submit_kept, submit_asks, submit_made}
 use Rattle.sender_submit.proofs.submit.Goals as goal
 
 pub submit_done-after-requires : goal.submit_done-after-requires
@@ -8,8 +8,8 @@ submit_done-after-requires c = let a = c.args in
 
 pub returns-in-Refused : goal.returns-in-Refused
 returns-in-Refused c = let a = c.args in
-    submit-kept a.s a.r a.send a.recv a.bytes.now a.store.now c.judge-answer.result c.judge-answer.ensures _ c.in-Refused.is
+    submit_kept a.s a.r a.send a.recv a.bytes.now a.store.now c.judge-answer.result c.judge-answer.ensures _ c.in-Refused.is
 
 pub returns-in-Count : goal.returns-in-Count
 returns-in-Count c = let a = c.args in
-    submit-made a.s a.r a.send a.recv a.bytes.now a.store.now c.judge-answer.result c.judge-answer.ensures c.in-Count.packets c.in-Count.is _ _ c.submit_done-after.ensures
+    submit_made a.s a.r a.send a.recv a.bytes.now a.store.now c.judge-answer.result c.judge-answer.ensures c.in-Count.packets c.in-Count.is _ _ c.submit_done-after.ensures

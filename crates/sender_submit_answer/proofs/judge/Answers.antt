@@ -74,13 +74,13 @@ returns-then-length_wrong c = let j = judged (goal.at.returns-then-length_wrong 
 
 pub chunk_count-packets-requires : goal.chunk_count-packets-requires
 chunk_count-packets-requires c = let z = fits (goal.at.chunk_count-packets-requires c).Else-not-both_fit in
-    (z.counts.chunk-some, (length_fair _ (fair (goal.at.chunk_count-packets-requires c).Else-length_wrong).1).1)
+    (z.counts.chunk_some, (length_fair _ (fair (goal.at.chunk_count-packets-requires c).Else-length_wrong).1).1)
 
 -- there is a chunk, and there are not more of them than bytes
 some : (c : After-chunk_count-packets) → 1 ≤ c.chunk_count-packets.result
 some c =
     let z = fits c.before.before.before.before.before.before in
-    rw c.chunk_count-packets.ensures (chunks_some _ _ z.counts.chunk-some (length_fair _ (fair c.before).1).0)
+    rw c.chunk_count-packets.ensures (chunks_some _ _ z.counts.chunk_some (length_fair _ (fair c.before).1).0)
 
 few : (c : After-chunk_count-packets) → c.chunk_count-packets.result ≤ 67347
 few c =

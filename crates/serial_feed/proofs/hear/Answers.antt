@@ -1,11 +1,11 @@
 -- `serial_feed::hear` meets its contract: a way out for each phase, and for portions of none, one and more bytes. Assumes nothing.
 use native.Mathlib.Omega.{arith}
-use Rattle.serial_feed.proofs.Ways.{within_facts, half_fact, hears-stopped, hears-within, hears-nothing, hears-low, hears_high, hears-length}
+use Rattle.serial_feed.proofs.Ways.{within_facts, half_fact, hears_stopped, hears_within, hears_nothing, hears_low, hears_high, hears_length}
 use Rattle.serial_feed.proofs.hear.Goals as goal
 
 pub returns-then-r-eq3 : goal.returns-then-r-eq3
 returns-then-r-eq3 c = let a = c.args in
-    hears-stopped a.r a.buffer.now a.portion.now c.requires.0 c.requires.1 (omega arith)
+    hears_stopped a.r a.buffer.now a.portion.now c.requires.0 c.requires.1 (omega arith)
 
 pub fill-requires : goal.fill-requires
 fill-requires c = let a = c.args in
@@ -14,11 +14,11 @@ fill-requires c = let a = c.args in
 
 pub returns-then-r-eq2 : goal.returns-then-r-eq2
 returns-then-r-eq2 c = let a = c.args in
-    hears-within a.r a.buffer.now a.portion.now c.requires.0 c.requires.1 (omega arith) _ c.fill.ensures
+    hears_within a.r a.buffer.now a.portion.now c.requires.0 c.requires.1 (omega arith) _ c.fill.ensures
 
 pub returns-then-portion-eq0 : goal.returns-then-portion-eq0
 returns-then-portion-eq0 c = let a = c.args in
-    hears-nothing a.r a.buffer.now a.portion.now c.requires.0 c.requires.1 (omega arith) (omega arith) (omega arith)
+    hears_nothing a.r a.buffer.now a.portion.now c.requires.0 c.requires.1 (omega arith) (omega arith) (omega arith)
 
 pub overflow_mul-size : goal.overflow_mul-size
 overflow_mul-size c = let a = c.args in
@@ -32,7 +32,7 @@ overflow_add-size c = let a = c.args in
 
 pub returns-then-r-eq1 : goal.returns-then-r-eq1
 returns-then-r-eq1 c = let a = c.args in
-    hears-low a.r a.buffer.now a.portion.now c.requires.0 c.requires.1 (omega arith) (omega arith) c.wide-first.result c.wide-first.ensures.0 _
+    hears_low a.r a.buffer.now a.portion.now c.requires.0 c.requires.1 (omega arith) (omega arith) c.wide-first.result c.wide-first.ensures.0 _
     c.measured.ensures
 
 pub returns-then-portion-eq1 : goal.returns-then-portion-eq1
@@ -41,5 +41,5 @@ returns-then-portion-eq1 c = let a = c.args in
 
 pub returns : goal.returns
 returns c = let a = c.args in
-    hears-length a.r a.buffer.now a.portion.now c.requires.0 c.requires.1 (omega arith) (omega arith) (omega arith) (omega arith)
+    hears_length a.r a.buffer.now a.portion.now c.requires.0 c.requires.1 (omega arith) (omega arith) (omega arith) (omega arith)
     c.wide-first.result c.wide.result c.wide-first.ensures.0 c.wide.ensures.0 _ c.measured-2.ensures

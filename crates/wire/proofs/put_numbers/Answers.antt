@@ -6,7 +6,7 @@ use borrow.Rule.Slice.PartMut.{same_len_mid}
 use lib.ListN.{length, get_or, take, length-take, length-drop}
 use lib.Seq.{take-length, length-take-le}
 use Rattle.wire.specs.BigEndian.{bytes_of, bytes_of_each}
-use Rattle.wire.proofs.Laws.{length-each, each_more}
+use Rattle.wire.proofs.Laws.{length_each, each_more}
 use Rattle.wire.proofs.Parts.{then_put}
 use Rattle.wire.proofs.put_numbers.Goals as goal
 
@@ -30,7 +30,7 @@ loop-j-preserved c = let a = c.args in
       omega arith,
       same_len_mid c.loop-j.at (length c.loop-j.rest - c.loop-j.at) c.loop-j.rest c.put32.new.rest c.put32.auto.rest ∙ c.loop-j.invariant.2,
       then_put (bytes_of_each 4 (take j xs)) (bytes_of 4 (get_or xs j 0)) a.rest.now _ _ _ c.loop-j.invariant.3
-          (length-each 4 (take j xs) ∙ rw (length-take-le j xs (omega arith)) (sym c.loop-j.invariant.1)) (omega arith) c.put32.ensures
+          (length_each 4 (take j xs) ∙ rw (length-take-le j xs (omega arith)) (sym c.loop-j.invariant.1)) (omega arith) c.put32.ensures
           ∙ rw (each_more 4 xs j (omega arith)),
     )
 

@@ -5,7 +5,7 @@ use Rattle.packet_read.specs.Going.{◌and_then◌}
 use Rattle.packet_read.specs.Options.{destination_begins, after_destination, options_in}
 use Rattle.packet_read.specs.Destination.{said_destination}
 use Rattle.packet_read.specs.declared.DestinationFound.{DestinationFound}
-use Rattle.packet_read.proofs.Form.{size-inside}
+use Rattle.packet_read.proofs.Form.{size_inside}
 use Rattle.packet_read.proofs.Ways.{cut_delay, past_delay}
 use Rattle.packet_read.proofs.area.options.Goals.{After-size_if}
 use Rattle.packet_read.proofs.area.options.Goals.{After-destination_there}
@@ -29,7 +29,7 @@ returns-then-end-destination_at c = cut_delay _ _ _ _ _ (place (goal.at.returns-
 pub after_destination-requires : goal.after_destination-requires
 after_destination-requires c = let a = c.args in (
   place (goal.at.after_destination-requires c).After-size_if,
-  size-inside a.packet.now _ _ _ c.has-2.result c.if-end-destination_at.false (sym c.destination_there.ensures ∙ ap said_destination c.in-Whole.is),
+  size_inside a.packet.now _ _ _ c.has-2.result c.if-end-destination_at.false (sym c.destination_there.ensures ∙ ap said_destination c.in-Whole.is),
   c.requires.1,
 )
 

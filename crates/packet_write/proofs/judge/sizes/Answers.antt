@@ -5,7 +5,7 @@ use native.Mathlib.Omega.{arith}
 use Rattle.terms.specs.Ladder.{◌when◌else◌}
 use Rattle.packet_read.specs.Flags.{bit}
 use Rattle.packet_read.specs.Options.{signature_at}
-use Rattle.packet_write.proofs.Ways.{part-long, too_long, no_room, it_fits}
+use Rattle.packet_write.proofs.Ways.{part_long_lem, too_long, no_room, it_fits}
 use Rattle.packet_write.proofs.judge.sizes.Goals.{Else-part_long}
 use Rattle.packet_write.proofs.judge.sizes.Goals.{After-before_signature}
 use Rattle.packet_write.proofs.judge.sizes.Goals as goal
@@ -21,7 +21,7 @@ place c = omega (arith, c.before_signature.ensures.0)
 
 pub returns-then-part_long : goal.returns-then-part_long
 returns-then-part_long c = let a = c.args in
-    part-long a.flags a.nacks a.destination a.signature a.payload a.room (omega (arith, c.part_long.ensures.0 c.if-part_long.true))
+    part_long_lem a.flags a.nacks a.destination a.signature a.payload a.room (omega (arith, c.part_long.ensures.0 c.if-part_long.true))
 
 pub before_signature-requires : goal.before_signature-requires
 before_signature-requires c = (short (goal.at.before_signature-requires c).Else-part_long).0

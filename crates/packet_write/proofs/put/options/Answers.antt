@@ -8,7 +8,7 @@ use lib.ListN.{length, take, drop}
 use borrow.Rule.Slice.PartMut.{put_mid}
 use Rattle.terms.specs.Ladder.{◌when◌else◌}
 use Rattle.terms.specs.Lists.{◌at_front_of◌}
-use Rattle.wire.proofs.Parts.{Front, front-first, front_more, front_at, front-inside, front-room}
+use Rattle.wire.proofs.Parts.{Front, front_first, front_more, front_at, front_inside, front_room}
 use Rattle.packet_read.specs.Flags.{bit}
 use Rattle.packet_write.specs.Writing.{if_there}
 use Rattle.packet_write.proofs.Joins.{length_if}
@@ -31,7 +31,7 @@ one : (c : After-size_if-destination_at) → let a = c.args in
     Front (if_there (bit 6 a.flags) a.delay) a.rest.now c.put16_if.new.rest c.size_if-destination_at.result
 one c =
     let a = c.args in
-    front-first _ _ _ _ (c.put16_if.ensures ∙ ap (λ (b : Bool). if_there b a.delay at_front_of a.rest.now) c.has-delayed.ensures)
+    front_first _ _ _ _ (c.put16_if.ensures ∙ ap (λ (b : Bool). if_there b a.delay at_front_of a.rest.now) c.has-delayed.ensures)
     (length_if (bit 6 a.flags) a.delay ∙ sym (size c)) (omega (arith, size c, c.requires))
 
 -- then the destination
@@ -63,49 +63,49 @@ put16_if-requires c = λ t.
     omega (arith, c.requires)
 
 pub slice_bounds-put_bytes-count : goal.slice_bounds-put_bytes-count
-slice_bounds-put_bytes-count c = front-inside (one (goal.at.slice_bounds-put_bytes-count c).After-size_if-destination_at)
+slice_bounds-put_bytes-count c = front_inside (one (goal.at.slice_bounds-put_bytes-count c).After-size_if-destination_at)
 
 pub slice_bounds-put_bytes-start : goal.slice_bounds-put_bytes-start
-slice_bounds-put_bytes-start c = front-inside (one (goal.at.slice_bounds-put_bytes-start c).After-size_if-destination_at)
+slice_bounds-put_bytes-start c = front_inside (one (goal.at.slice_bounds-put_bytes-start c).After-size_if-destination_at)
 
 pub put_bytes-requires : goal.put_bytes-requires
 put_bytes-requires c =
     let e = (goal.at.put_bytes-requires c).After-size_if-destination_at in
-    front-room (one e) _ (omega (arith, size e, c.requires))
+    front_room (one e) _ (omega (arith, size e, c.requires))
 
 pub slice_bounds-put16_if-count : goal.slice_bounds-put16_if-count
 slice_bounds-put16_if-count c =
     let e = (goal.at.slice_bounds-put16_if-count c).After-size_if-destination_at in
-    front-inside (two (goal.at.slice_bounds-put16_if-count c).After-put_bytes (size e) (one e))
+    front_inside (two (goal.at.slice_bounds-put16_if-count c).After-put_bytes (size e) (one e))
 
 pub slice_bounds-put16_if-start : goal.slice_bounds-put16_if-start
 slice_bounds-put16_if-start c =
     let e = (goal.at.slice_bounds-put16_if-start c).After-size_if-destination_at in
-    front-inside (two (goal.at.slice_bounds-put16_if-start c).After-put_bytes (size e) (one e))
+    front_inside (two (goal.at.slice_bounds-put16_if-start c).After-put_bytes (size e) (one e))
 
 pub put16_if-requires-2 : goal.put16_if-requires-2
 put16_if-requires-2 c = λ t.
     let e = (goal.at.put16_if-requires-2 c).After-size_if-destination_at in
     let z : ◌≡◌ {A = ℕ} (2 when bit 7 c.args.flags else 0) 2 = rw (sym c.has-sized.ensures ∙ t) in
-    front-room (two (goal.at.put16_if-requires-2 c).After-put_bytes (size e) (one e)) 2 (omega (arith, size e, c.requires))
+    front_room (two (goal.at.put16_if-requires-2 c).After-put_bytes (size e) (one e)) 2 (omega (arith, size e, c.requires))
 
 pub slice_bounds-put_bytes-count-2 : goal.slice_bounds-put_bytes-count-2
 slice_bounds-put_bytes-count-2 c =
     let g = goal.at.slice_bounds-put_bytes-count-2 c in
     let e = g.After-size_if-destination_at in
-    front-inside (three g.After-size_if (size e) (two g.After-put_bytes (size e) (one e)))
+    front_inside (three g.After-size_if (size e) (two g.After-put_bytes (size e) (one e)))
 
 pub slice_bounds-put_bytes-start-2 : goal.slice_bounds-put_bytes-start-2
 slice_bounds-put_bytes-start-2 c =
     let g = goal.at.slice_bounds-put_bytes-start-2 c in
     let e = g.After-size_if-destination_at in
-    front-inside (three g.After-size_if (size e) (two g.After-put_bytes (size e) (one e)))
+    front_inside (three g.After-size_if (size e) (two g.After-put_bytes (size e) (one e)))
 
 pub put_bytes-requires-2 : goal.put_bytes-requires-2
 put_bytes-requires-2 c =
     let g = goal.at.put_bytes-requires-2 c in
     let e = g.After-size_if-destination_at in
-    front-room (three g.After-size_if (size e) (two g.After-put_bytes (size e) (one e))) _ (omega (arith, size2 g.After-size_if, size e, c.requires))
+    front_room (three g.After-size_if (size e) (two g.After-put_bytes (size e) (one e))) _ (omega (arith, size2 g.After-size_if, size e, c.requires))
 
 pub returns : goal.returns
 returns c =

@@ -7,10 +7,10 @@ use lib.ListN.{length, take, drop}
 use borrow.Rule.Slice.PartMut.{put_mid}
 use Rattle.terms.specs.Ladder.{◌when◌else◌}
 use Rattle.terms.specs.Lists.{◌at_front_of◌, joined}
-use Rattle.wire.proofs.Parts.{Front, front-first, front_more, front_at, front-inside, front-room}
+use Rattle.wire.proofs.Parts.{Front, front_first, front_more, front_at, front_inside, front_room}
 use Rattle.packet_read.specs.Flags.{bit}
 use Rattle.packet_write.specs.Writing.{head_parts, option_parts, packet_bytes}
-use Rattle.packet_write.proofs.Joins.{length-head, options_joined, length_options}
+use Rattle.packet_write.proofs.Joins.{length_head, options_joined, length_options}
 use Rattle.packet_write.proofs.put.packet.Goals.{Start}
 use Rattle.packet_write.proofs.put.packet.Goals.{After-before_signature}
 use Rattle.packet_write.proofs.put.packet.Goals.{After-head}
@@ -33,7 +33,7 @@ one : (c : After-head) → let a = c.args in
     Front (joined (head_parts a.f a.nacks.now (c.before_signature.result + length a.signature.now))) a.output.now c.head.new.rest (22 + 4 * length a.nacks.now)
 one c =
     let a = c.args in
-    front-first _ _ _ _ c.head.ensures (length-head a.f a.nacks.now _) (omega (arith, c.requires))
+    front_first _ _ _ _ c.head.ensures (length_head a.f a.nacks.now _) (omega (arith, c.requires))
 
 -- then the options
 two : (c : After-options) → let a = c.args in let o = c.head.new.rest in let z = c.before_signature.result + length a.signature.now in
@@ -52,23 +52,23 @@ two c long f =
 pub options-requires : goal.options-requires
 options-requires c =
     let g = goal.at.options-requires c in
-    front-room (one g.After-head) _ (omega (arith, options_long g.Start, c.requires))
+    front_room (one g.After-head) _ (omega (arith, options_long g.Start, c.requires))
 
 pub slice_bounds-put_bytes-count : goal.slice_bounds-put_bytes-count
 slice_bounds-put_bytes-count c =
     let g = goal.at.slice_bounds-put_bytes-count c in
-    front-inside (two g.After-options (size g.After-before_signature) (one g.After-head))
+    front_inside (two g.After-options (size g.After-before_signature) (one g.After-head))
 
 pub slice_bounds-put_bytes-start : goal.slice_bounds-put_bytes-start
 slice_bounds-put_bytes-start c =
     let g = goal.at.slice_bounds-put_bytes-start c in
-    front-inside (two g.After-options (size g.After-before_signature) (one g.After-head))
+    front_inside (two g.After-options (size g.After-before_signature) (one g.After-head))
 
 pub put_bytes-requires : goal.put_bytes-requires
 put_bytes-requires c =
     let g = goal.at.put_bytes-requires c in
     let e = g.After-before_signature in
-    front-room (two g.After-options (size e) (one g.After-head)) _ (omega (arith, size e, options_long g.Start, c.requires))
+    front_room (two g.After-options (size e) (one g.After-head)) _ (omega (arith, size e, options_long g.Start, c.requires))
 
 pub returns : goal.returns
 unfolding packet_bytes

@@ -4,7 +4,7 @@ use mathlib.Core.Path.{◌≡◌}
 use native.Mathlib.Omega.{arith}
 use lib.ListN.{length}
 use Rattle.sender_state.proofs.Facts.{ruled}
-use Rattle.sender_acks.proofs.Freeing.{tidy_flags, acks-made}
+use Rattle.sender_acks.proofs.Freeing.{tidy_flags, acks_made}
 use borrow.Author.Rules.{rules}
 use Rattle.sender_acks.proofs.acking.acks_done.Goals.{Start}
 use Rattle.sender_acks.proofs.acking.acks_done.Goals as goal
@@ -32,5 +32,5 @@ measure-m-requires c = (
 )
 
 pub returns : goal.returns
-returns c = acks-made c.args.s (row (goal.at.returns c).Start) (table (goal.at.returns c).Start) (width (goal.at.returns c).Start) c.args.through c.args.nacks.now c.acked_flags-flags.result c.acked_flags-flags.ensures
+returns c = acks_made c.args.s (row (goal.at.returns c).Start) (table (goal.at.returns c).Start) (width (goal.at.returns c).Start) c.args.through c.args.nacks.now c.acked_flags-flags.result c.acked_flags-flags.ensures
     c.args.clock c.measure-m.result c.measure-m.ensures _ c.freed-after.ensures

@@ -15,7 +15,7 @@ use Rattle.sender_state.specs.Steps.{Tidy}
 use Rattle.sender_resend.specs.Steps.{Expires, flying_below}
 use Rattle.sender_resend.specs.Resend.{timed_at, expired_of}
 use Rattle.sender_state.proofs.Search.{tidy}
-use Rattle.sender_resend.proofs.Resending.{none_flies, some-flies, left-idle, left-later, left_again, again_same}
+use Rattle.sender_resend.proofs.Resending.{none_flies, some_flies, left_idle, left_later, left_again, again_same}
 use borrow.Author.Rules.{rules}
 use Rattle.sender_resend.proofs.again.resend_done.Goals.{Start}
 use Rattle.sender_resend.proofs.again.resend_done.Goals.{Else-least}
@@ -40,7 +40,7 @@ neat c = tidy c.args.s (row c) (table c) (width c) (ruled c.args.s c.requires.0)
 -- something is in flight
 some : (c : Else-least) → let a = c.args in 0 < length (in_flight a.s)
 some c =
-    some-flies c.args.s (neat c.before.before.before.before.before.before.before) _ c.least.ensures c.if-least.false
+    some_flies c.args.s (neat c.before.before.before.before.before.before.before) _ c.least.ensures c.if-least.false
 
 found : (c : After-find_expired-found) → let a = c.args in
     Expires a.s.numbers a.s.sent a.s.marks a.s.next.0 a.clock (rto_of a.s.timing) a.s.window c.find_expired-found.result
@@ -50,7 +50,7 @@ pub least-requires : goal.least-requires
 least-requires c = (row (goal.at.least-requires c).Start, table (goal.at.least-requires c).Start)
 
 pub returns-then-least : goal.returns-then-least
-returns-then-least c = left-idle c.args.s c.args.clock c.args.path
+returns-then-least c = left_idle c.args.s c.args.clock c.args.path
     (none_flies c.args.s (neat (goal.at.returns-then-least c).Start) _ c.least.ensures c.if-least.true) _ c.still-idle.ensures
 
 pub find_expired-found-requires : goal.find_expired-found-requires
@@ -61,7 +61,7 @@ overflow_add-due c = omega (arith, c.rto-rto.ensures, rto_most c.args.s.timing, 
 
 pub returns-then-count-path : goal.returns-then-count-path
 returns-then-count-path c = let a = c.args in
-    left-later a.s a.clock (some (goal.at.returns-then-count-path c).Else-least) c.find_expired-found.result.count (found (goal.at.returns-then-count-path c).After-find_expired-found).counts a.path c.if-count-path.true _
+    left_later a.s a.clock (some (goal.at.returns-then-count-path c).Else-least) c.find_expired-found.result.count (found (goal.at.returns-then-count-path c).After-find_expired-found).counts a.path c.if-count-path.true _
     (c.still-later.ensures ∙ ap (λ (r : ℕ). timed_at a.s (T.At (a.clock + r)) a.clock) c.rto-rto.ensures)
 
 pub returns : goal.returns
