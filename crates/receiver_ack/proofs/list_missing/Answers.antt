@@ -21,9 +21,9 @@ loop-number-preserved c = let a = c.args in
     let test = not_held a.marks.now in
     elim c.if-marks-at-eq0.branch [
       | then-marks-at-eq0 w ↦
-          rw (w.missing_is, w.count_is) (list_found test a.next.0 a.highest.0 a.missing.now l.missing l.count l.number l.invariant (omega arith) (eq-eqb _ _ w.if-marks-at-eq0.true) (omega arith))
+          rw (w.missing-is, w.count-is) (list_found test a.next.0 a.highest.0 a.missing.now l.missing l.count l.number l.invariant (omega arith) (eq-eqb _ _ w.if-marks-at-eq0.true) (omega arith))
       | else-marks-at-eq0 w ↦
-          rw (w.missing_is, w.count_is) (list_passed test a.next.0 a.highest.0 a.missing.now l.missing l.count l.number l.invariant (omega arith) (ne_eqb _ _ w.if-marks-at-eq0.false))
+          rw (w.missing-is, w.count-is) (list_passed test a.next.0 a.highest.0 a.missing.now l.missing l.count l.number l.invariant (omega arith) (ne_eqb _ _ w.if-marks-at-eq0.false))
     ]
 
 pub returns : goal.returns
