@@ -1,5 +1,5 @@
-// The words of document 01 that every layer above uses: the two kinds of number that are never mixed up, the refusals, and the
-// answers that calls of both halves give.
+// The words of document 01 that every layer above uses: the two kinds of number that are never mixed up, and the refusals. A call's answer is a `Result` of what it
+// gives or a refusal.
 #![tactic(auto)]
 
 ghost use Rattle.std.specs.Prelude.{◌≡◌};
@@ -7,79 +7,79 @@ ghost use Rattle.terms.specs.Refusals.{number_of};
 
 // A stream's id. A call that wants one takes no `SeqNo`.
 #[repr(C)]
-#[derive(Clone, Copy)]
+#[derive(Clone, Copy, Debug, Default, PartialEq, Eq, PartialOrd, Ord)]
 pub struct StreamId(pub u32);
 
 // A packet's sequence number.
 #[repr(C)]
-#[derive(Clone, Copy)]
+#[derive(Clone, Copy, Debug, Default, PartialEq, Eq, PartialOrd, Ord)]
 pub struct SeqNo(pub u32);
 
 // Document 01's refusals, in the order of its table, whose own lines the comments are, and those that document 02 adds.
-#[derive(Clone, Copy)]
+#[derive(Clone, Copy, Debug, PartialEq, Eq)]
 pub enum Refusal {
     // packet shorter than 22, 22+4n or 22+4n+o
-    PacketShort,
+    PacketShort = 1,
     // packet read, or to be written, longer than 65,535
-    PacketLong,
+    PacketLong = 2,
     // option area ends inside a flagged option
-    OptionCut,
+    OptionCut = 3,
     // destination of another form
-    DestinationForm,
+    DestinationForm = 4,
     // bit 11 without bit 5
-    OfflineAlone,
+    OfflineAlone = 5,
     // bit 11 with bit 5
-    OfflineBlock,
+    OfflineBlock = 6,
     // output shorter than needed
-    OutputShort,
+    OutputShort = 7,
     // more than 255 NACKs to write or to act on
-    NacksMany,
+    NacksMany = 8,
     // parts do not fit the flags
-    PartsUnfit,
+    PartsUnfit = 9,
     // slot or chunk size, slot count or store length wrong
-    SizeWrong,
+    SizeWrong = 10,
     // state breaks the rules
-    StateBroken,
+    StateBroken = 11,
     // number, or the s to start after, is 4,294,967,295
-    LastNumber,
+    LastNumber = 12,
     // number below the next to take
-    BelowNext,
+    BelowNext = 13,
     // number minus next to take is 512 or more
-    BeyondSpan,
+    BeyondSpan = 14,
     // number already held
-    AlreadyHeld,
+    AlreadyHeld = 15,
     // payload longer than a slot
-    PayloadLong,
+    PayloadLong = 16,
     // nothing ready, nothing waiting, or no such rank in flight
-    NothingThere,
+    NothingThere = 17,
     // fewer free slots than packets
-    SlotsFew,
+    SlotsFew = 18,
     // submitted length 0 or above 65,535
-    SubmitLength,
+    SubmitLength = 19,
     // first number 0, or a submit's last number would be 4,294,967,295 or more
-    NumbersSpent,
+    NumbersSpent = 20,
     // submit while packets wait
-    PacketsWait,
+    PacketsWait = 21,
     // waiting, but in flight is at least the window
-    WindowFull,
+    WindowFull = 22,
     // ack-through above the next number
-    AckBeyond,
+    AckBeyond = 23,
     // clock below the last accepted clock, or above 10^15
-    ClockWrong,
+    ClockWrong = 24,
     // timer unarmed or not due
-    TimerEarly,
+    TimerEarly = 25,
     // mark of a recorded night wrong, or cut
-    MarkWrong,
+    MarkWrong = 26,
     // version of a recorded night other than 1, or cut
-    VersionOther,
+    VersionOther = 27,
     // kind of a record unknown, or kind 0 repeated or not first
-    KindUnknown,
+    KindUnknown = 28,
     // record cut, none at all, or data that does not fit its kind
-    RecordCut,
+    RecordCut = 29,
     // length on a serial line under 22, or above the lent buffer
-    LengthUnfit,
+    LengthUnfit = 30,
     // time to smooth above 4,294,967,295
-    TimeLarge,
+    TimeLarge = 31,
 }
 
 impl Refusal {
@@ -87,52 +87,6 @@ impl Refusal {
     pub fn number(self) -> u32
         ensures { result ≡ number_of self }
     {
-        match self {
-            Refusal::PacketShort => 1,
-            Refusal::PacketLong => 2,
-            Refusal::OptionCut => 3,
-            Refusal::DestinationForm => 4,
-            Refusal::OfflineAlone => 5,
-            Refusal::OfflineBlock => 6,
-            Refusal::OutputShort => 7,
-            Refusal::NacksMany => 8,
-            Refusal::PartsUnfit => 9,
-            Refusal::SizeWrong => 10,
-            Refusal::StateBroken => 11,
-            Refusal::LastNumber => 12,
-            Refusal::BelowNext => 13,
-            Refusal::BeyondSpan => 14,
-            Refusal::AlreadyHeld => 15,
-            Refusal::PayloadLong => 16,
-            Refusal::NothingThere => 17,
-            Refusal::SlotsFew => 18,
-            Refusal::SubmitLength => 19,
-            Refusal::NumbersSpent => 20,
-            Refusal::PacketsWait => 21,
-            Refusal::WindowFull => 22,
-            Refusal::AckBeyond => 23,
-            Refusal::ClockWrong => 24,
-            Refusal::TimerEarly => 25,
-            Refusal::MarkWrong => 26,
-            Refusal::VersionOther => 27,
-            Refusal::KindUnknown => 28,
-            Refusal::RecordCut => 29,
-            Refusal::LengthUnfit => 30,
-            Refusal::TimeLarge => 31,
-        }
+        self as u32
     }
-}
-
-// What a call answers that gives nothing beside its state.
-#[derive(Clone, Copy)]
-pub enum Answer {
-    Done,
-    Refused(Refusal),
-}
-
-// What a call answers that copies bytes out: how many.
-#[derive(Clone, Copy)]
-pub enum Given {
-    Bytes(usize),
-    Refused(Refusal),
 }

@@ -4,8 +4,8 @@ use mathlib.Core.Path.{◌≡◌, sym, ◌∙◌, subst}
 use mathlib.Core.List.{List, ◌++◌, append_assoc, append-nil}
 use native.Mathlib.Omega.{arith}
 use borrow.Rule.Slice.PartMut.{put_mid}
-use lib.ListN.{length, take, drop, length-append, length-take, length-drop, drop_of_length-le}
-use lib.Seq.{take_all, take_at, drop_at, drop-drop}
+use lib.ListN.{length, take, drop, length-append, length-take, length-drop, drop_of_length-le, take-append-drop}
+use lib.Seq.{take_all, take_at, drop_at, drop-drop, length-take-le}
 use Rattle.terms.specs.Lists.{◌at_front_of◌}
 
 -- what a list holds when its rest, lent from an index on and written at the front, has come back
@@ -22,6 +22,13 @@ then_put w b o out last n e l h f =
     let front : take n out ≡ w = rw e (take_at w (drop (length w) o) n l) in
     let back : drop n out ≡ drop n o = rw (e, l) (drop_at w (drop n o) n l) in
     rest_back out b last n f ∙ rw (front, back, drop-drop, length-append, l) (sym (append_assoc w b (drop (n + length b) o)))
+
+-- b is written behind the first n bytes of o
+pub put_behind : (o b last : List ℕ) (n : ℕ) → n + length b ≤ length o → last ≡ b at_front_of (take (length o - n) (drop n o))
+    → put_mid n (length o - n) o last ≡ (take n o ++ b) at_front_of o
+put_behind o b last n h f =
+    let l = length-take-le n o (omega arith) in
+    then_put (take n o) b o o last n (rw l (sym (take-append-drop n o))) l h f
 
 -- out is o with the n bytes w at its front
 pub record Front (w o out : List ℕ) (n : ℕ) : Type 0 where
