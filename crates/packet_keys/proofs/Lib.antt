@@ -1,4 +1,3 @@
 -- What belongs to no one function: the tables of the code are the list, and what holds of every type of it.
-pub mod Table
 pub mod Listed
 pub mod Determined

@@ -1,5 +1,4 @@
--- What belongs to no one function: the ladders at each way out, the laws of reading, and that the promises determine their results.
-pub mod Ways
+-- What belongs to no one function: the laws of reading, and that the promises determine their results.
 pub mod Form
 pub mod Moved
 pub mod Readable

@@ -3,11 +3,9 @@
 use Rattle.std.specs.Prelude.{ℕ, ◌+◌, Bool, ◌&&◌, ◌||◌, not, List, leb, ltb, eqb, length}
 use Rattle.terms.specs.Answers.{Saying, refusal, values}
 use Rattle.terms.specs.Ladder.{◌when◌else◌}
-use Rattle.terms.specs.Refusals.{number_of}
 use Rattle.wire.specs.BigEndian.{number_at}
 use Rattle.packet_keys.specs.Kinds.{signature_length, is_listed}
-use Rattle.packet_read.specs.declared.DestinationFound.{DestinationFound}
-use Rattle.packet_read.specs.declared.DestinationFound.TheVariants as D
+use Rattle.packet_read.specs.declared.Destination.{Destination}
 
 module _ (bytes : List ℕ) (at : ℕ) where
   abbrev pub certificate_type : ℕ
@@ -33,13 +31,8 @@ form_fits certificate L = eqb L 0 when eqb certificate 0 else (eqb certificate 5
 abbrev pub key_fits : ℕ → ℕ → Bool
 key_fits kind L = is_listed kind && (not (eqb kind 3) || leb 8 L)
 
--- a destination: how long it is, and how long its signatures are
-pub record Whole : Type 0 where
-  pub size : ℕ
-  pub signs : ℕ
-
 -- the destination that begins at `at`, in an area that ends at `end`
-unfoldable pub destination_in : List ℕ → ℕ → ℕ → Saying Whole
+unfoldable pub destination_in : List ℕ → ℕ → ℕ → Saying Destination
 destination_in bytes at end =
     -- 3 under 387 bytes
     refusal 3 when ltb end (at + 387) else
@@ -51,12 +44,7 @@ destination_in bytes at end =
     refusal 4 when not (key_fits (signing_type bytes at) (certificate_length bytes at)) else
     values (record { size = 387 + certificate_length bytes at; signs = signature_length (signing_type bytes at) })
 
--- what an answer says
-abbrev pub said_destination : DestinationFound → Saying Whole
-said_destination (D.Refused r) = refusal (number_of r)
-said_destination (D.Whole size signs) = values (record { size = size; signs = signs })
-
-abbrev pub signs_filling : ℕ → Saying Whole → ℕ
+abbrev pub signs_filling : ℕ → Saying Destination → ℕ
 signs_filling n (refusal number) = 0
 signs_filling n (values d) = d.signs when eqb d.size n else 0
 

@@ -3,19 +3,12 @@
 use Rattle.std.specs.Prelude.{ℕ, ◌+◌, ◌-◌, ◌&&◌, not, List, ltb}
 use Rattle.terms.specs.Answers.{Saying, refusal, values}
 use Rattle.terms.specs.Ladder.{◌when◌else◌}
-use Rattle.terms.specs.Refusals.{number_of}
 use Rattle.wire.specs.BigEndian.{number_at}
 use Rattle.packet_read.specs.Going.{◌and_then◌}
 use Rattle.packet_read.specs.Flags.{bit}
-use Rattle.packet_read.specs.Destination.{Whole, destination_in}
+use Rattle.packet_read.specs.Destination.{destination_in}
+use Rattle.packet_read.specs.declared.Destination.{Destination}
 use Rattle.packet_read.specs.declared.Found.{Found}
-use Rattle.packet_read.specs.declared.Options.{Options}
-use Rattle.packet_read.specs.declared.Options.TheVariants as O
-
--- what an answer says
-abbrev pub said_options : Options → Saying Found
-said_options (O.Refused r) = refusal (number_of r)
-said_options (O.Found found) = values found
 
 -- an option area that starts at `at`
 module _ (at flags : ℕ) where
@@ -29,17 +22,17 @@ module _ (at flags : ℕ) where
   abbrev pub signature_at : ℕ → ℕ
   signature_at size = max_at size + (2 when bit 7 flags else 0)
 
-abbrev pub no_destination : Whole
+abbrev pub no_destination : Destination
 no_destination = record { size = 0; signs = 0 }
 
 -- of the packet p, up to `end`
 module _ (p : List ℕ) (at end flags : ℕ) where
   -- the destination, or that of no byte where it is absent
-  abbrev pub destination_there : Saying Whole
+  abbrev pub destination_there : Saying Destination
   destination_there = destination_in p (destination_begins at flags) end when bit 5 flags else values no_destination
 
   -- what follows the destination d
-  module _ (d : Whole) where
+  module _ (d : Destination) where
     -- as long as its signatures are; without a destination, all the option bytes that remain
     abbrev pub signature_size : ℕ
     signature_size = (d.signs when bit 5 flags else (end - signature_at at flags d.size)) when bit 3 flags else 0

@@ -3,20 +3,12 @@
 use Rattle.std.specs.Prelude.{ℕ, ◌+◌, ◌-◌, ◌*◌, ◌/◌, List, ltb, length, take, drop}
 use Rattle.terms.specs.Answers.{Saying, refusal, values}
 use Rattle.terms.specs.Ladder.{◌when◌else◌}
-use Rattle.terms.specs.Refusals.{number_of}
 use Rattle.wire.specs.BigEndian.{number_at, numbers_at}
 use Rattle.packet_read.specs.Going.{◌and_then◌}
 use Rattle.packet_read.specs.Options.{options_in}
 use Rattle.packet_read.specs.declared.Span.{Span}
 use Rattle.packet_read.specs.declared.Packet.{Packet}
 use Rattle.packet_read.specs.declared.Found.{Found}
-use Rattle.packet_read.specs.declared.Reading.{Reading}
-use Rattle.packet_read.specs.declared.Reading.TheVariants as R
-
--- what an answer says
-abbrev pub said_reading : Reading → Saying Packet
-said_reading (R.Refused r) = refusal (number_of r)
-said_reading (R.Read p) = values p
 
 -- n
 abbrev pub nack_count : List ℕ → ℕ

@@ -7,20 +7,23 @@ mod area;
 pub mod flags;
 
 ghost use Rattle.std.specs.Prelude.{◌≡◌, ◌+◌, ◌*◌, ◌≤◌, length};
-ghost use Rattle.packet_read.specs.Destination.{signs_of};
-ghost use Rattle.packet_read.specs.Reading.{said_reading, read_of, fields_read};
+ghost use Rattle.terms.specs.Answers.{saying};
+ghost use Rattle.terms.specs.Ladder.{◌when◌else◌};
+ghost use Rattle.packet_read.specs.Destination.{signs_of, is_destination};
+ghost use Rattle.packet_read.specs.Reading.{read_of, fields_read};
 
 use terms::{Refusal, SeqNo, StreamId};
+use wire::Number;
 
-// Where a part of the packet stands. An absent part has no byte, and stands where it would have stood.
-#[derive(Clone, Copy)]
+// Where a part of the packet stands. An absent part has no byte, and stands where it would have stood. Places, and not lent parts, since the C interface gives them so.
+#[derive(Clone, Copy, Debug, Default, PartialEq, Eq)]
 pub struct Span {
     pub at: usize,
     pub len: usize,
 }
 
 // Every field of a packet, in wire order; options that are absent are 0 or empty.
-#[derive(Clone, Copy)]
+#[derive(Clone, Copy, Default)]
 pub struct Packet {
     pub send_stream_id: StreamId,
     pub recv_stream_id: StreamId,
@@ -38,18 +41,11 @@ pub struct Packet {
     pub payload: Span,
 }
 
-// The answer of `read`.
-#[derive(Clone, Copy)]
-pub enum Reading {
-    Read(Packet),
-    Refused(Refusal),
-}
-
-// A destination at the front of the option bytes that remain: its length and that of its signatures, or the refusal.
-#[derive(Clone, Copy)]
-pub enum DestinationFound {
-    Whole(usize, usize),
-    Refused(Refusal),
+// A destination: how long it is, and how long its signatures are.
+#[derive(Clone, Copy, Debug, PartialEq, Eq)]
+pub struct Destination {
+    pub size: usize,
+    pub signs: usize,
 }
 
 // What the option area holds.
@@ -62,19 +58,14 @@ pub struct Found {
     pub leftover: usize,
 }
 
-#[derive(Clone, Copy)]
-pub enum Options {
-    Found(Found),
-    Refused(Refusal),
-}
-
-// How long the signatures of this destination are, 0 where the bytes are not exactly one destination, with no byte behind it.
-pub fn signature_length(bytes: &[u8]) -> usize
-    ensures { result ≡ signs_of bytes.now }
+// How long the signatures of this destination are, where the bytes are exactly one destination, with no byte behind it.
+#[tactic(auto, using(crate::proofs::Moved::one_whole), unfolding(crate::specs::Destination::signs_of))]
+pub fn signature_length(bytes: &[u8]) -> Option<usize>
+    ensures { result ≡ (Some (signs_of bytes.now) when is_destination bytes.now else None) }
 {
-    match area::destination_in(bytes, 0, bytes.len()) {
-        DestinationFound::Whole(size, signs) => flags::size_if(size == bytes.len(), signs),
-        DestinationFound::Refused(_) => 0,
+    match area::destination_in(bytes, 0) {
+        Ok(d) if d.size == bytes.len() => Some(d.signs),
+        _ => None,
     }
 }
 
@@ -83,61 +74,51 @@ fn fields(packet: &[u8], nack_count: usize, end: usize, flags: u16, found: Found
     requires { (22 + 4 * nack_count ≤ length packet.now) × (end ≤ length packet.now) }
     ensures { result ≡ fields_read packet.now nack_count end flags found }
 {
-    let send = StreamId(wire::be32(packet, 0));
-    let recv = StreamId(wire::be32(packet, 4));
-    let seq = SeqNo(wire::be32(packet, 8));
-    let ack = SeqNo(wire::be32(packet, 12));
-    let resend = wire::be8(packet, 17 + 4 * nack_count);
-    let nacks = Span {
-        at: 17,
-        len: 4 * nack_count,
-    };
-    let destination = found.destination;
-    let signature = found.signature;
-    let payload = Span {
-        at: end,
-        len: packet.len() - end,
-    };
     Packet {
-        send_stream_id: send,
-        recv_stream_id: recv,
-        seq_nro: seq,
-        ack_through: ack,
-        nacks: nacks,
-        resend_delay: resend,
-        flags: flags,
+        send_stream_id: StreamId(u32::read(packet, 0)),
+        recv_stream_id: StreamId(u32::read(packet, 4)),
+        seq_nro: SeqNo(u32::read(packet, 8)),
+        ack_through: SeqNo(u32::read(packet, 12)),
+        nacks: Span {
+            at: 17,
+            len: 4 * nack_count,
+        },
+        resend_delay: u8::read(packet, 17 + 4 * nack_count),
+        flags,
         delay: found.delay,
-        destination: destination,
+        destination: found.destination,
         max_size: found.max_size,
-        signature: signature,
+        signature: found.signature,
         leftover: found.leftover,
-        payload: payload,
+        payload: Span {
+            at: end,
+            len: packet.len() - end,
+        },
     }
 }
 
 // Reads a packet. Refusals in document 01's order: 2, 1, then 3 to 6 as the options come.
-pub fn read(packet: &[u8]) -> Reading
-    ensures { said_reading result ≡ read_of packet.now }
+#[tactic(auto, unfolding(crate::specs::Reading::read_of))]
+pub fn read(packet: &[u8]) -> Result<Packet, Refusal>
+    ensures { saying result ≡ read_of packet.now }
 {
     let size = packet.len();
     if size > 65535 {
-        return Reading::Refused(Refusal::PacketLong);
+        return Err(Refusal::PacketLong);
     }
     if size < 22 {
-        return Reading::Refused(Refusal::PacketShort);
+        return Err(Refusal::PacketShort);
     }
-    let count = wire::be8(packet, 16) as usize;
+    let count = usize::from(u8::read(packet, 16));
     let options_at = 22 + 4 * count;
     if size < options_at {
-        return Reading::Refused(Refusal::PacketShort);
+        return Err(Refusal::PacketShort);
     }
-    let end = options_at + wire::be16(packet, 20 + 4 * count) as usize;
+    let end = options_at + usize::from(u16::read(packet, 20 + 4 * count));
     if size < end {
-        return Reading::Refused(Refusal::PacketShort);
+        return Err(Refusal::PacketShort);
     }
-    let flags = wire::be16(packet, 18 + 4 * count);
-    match area::options(packet, options_at, end, flags) {
-        Options::Refused(r) => Reading::Refused(r),
-        Options::Found(f) => Reading::Read(fields(packet, count, end, flags, f)),
-    }
+    let flags = u16::read(packet, 18 + 4 * count);
+    let found = area::options(&packet[..end], options_at, flags)?;
+    Ok(fields(packet, count, end, flags, found))
 }

@@ -13,9 +13,12 @@ use Rattle.packet_read.specs.Flags.{bit}
 use Rattle.packet_write.specs.Writing.{head_parts, option_parts, packet_bytes, if_there}
 use Rattle.packet_write.specs.declared.Fields.{Fields}
 
+-- the ids and numbers of the packet's first 16 bytes
+abbrev pub first_numbers : Fields → List ℕ
+first_numbers f = f.send_stream_id.0 ∷ f.recv_stream_id.0 ∷ f.seq_nro.0 ∷ f.ack_through.0 ∷ []
+
 pub head_joined : (f : Fields) (nacks : List ℕ) (options : ℕ)
-    → (bytes_of 4 f.send_stream_id.0 ++ bytes_of 4 f.recv_stream_id.0) ++ (bytes_of 4 f.seq_nro.0 ++ bytes_of 4 f.ack_through.0)
-    ++ (bytes_of 1 (length nacks) ++ bytes_of_each 4 nacks) ++ (bytes_of 1 f.resend_delay ++ bytes_of 2 f.flags ++ bytes_of 2 options)
+    → bytes_of_each 4 (first_numbers f) ++ (bytes_of 1 (length nacks) ++ bytes_of_each 4 nacks) ++ (bytes_of 1 f.resend_delay ++ bytes_of 2 f.flags ++ bytes_of 2 options)
     ≡ joined (head_parts f nacks options)
 head_joined f nacks options = simp append_assoc
 

@@ -1,7 +1,6 @@
--- What belongs to no one function: the ladders at each way out, the laws of writing, and that the promises determine their results.
+-- What belongs to no one function: the laws of writing, and that the promises determine their results.
 pub mod Joins
 pub mod Passed
-pub mod Ways
 pub mod Determined
 pub mod ReadsBack
 pub mod WritesBack

@@ -11,8 +11,9 @@ use Rattle.terms.specs.Ladder.{◌when◌else◌}
 use Rattle.terms.proofs.Laws.{past, both_false}
 use Rattle.packet_read.specs.Flags.{bit}
 use Rattle.packet_read.specs.Destination.{signs_of, is_destination}
-use Rattle.packet_write.specs.Writing.{Written, parts_unfit, signed_at, packet_length, write_of, Fitting}
+use Rattle.packet_write.specs.Writing.{parts_unfit, signed_at, packet_length, write_of, Fitting}
 use Rattle.packet_write.specs.declared.Fields.{Fields}
+use Rattle.packet_write.specs.declared.Written.{Written}
 
 -- the writer answered w
 pub record Passed (f : Fields) (nacks destination signature payload : List ℕ) (room : ℕ) (w : Written) : Type 0 where
@@ -21,7 +22,7 @@ pub record Passed (f : Fields) (nacks destination signature payload : List ℕ) 
   pub fit : parts_unfit f destination signature ≡ false
   pub form : (bit 5 f.flags && not (is_destination destination)) ≡ false
   pub signed : (bit 3 f.flags && (bit 5 f.flags && not (eqb (length signature) (signs_of destination)))) ≡ false
-  pub is : w ≡ record { length_is = packet_length f nacks destination signature payload; signature_begins = signed_at f nacks destination when bit 3 f.flags else 0 }
+  pub is : w ≡ record { length = packet_length f nacks destination signature payload; signature_at = signed_at f nacks destination when bit 3 f.flags else 0 }
 
 pub passed : (f : Fields) (nacks destination signature payload : List ℕ) (room : ℕ) (w : Written)
     → write_of f nacks destination signature payload room ≡ values w → Passed f nacks destination signature payload room w
@@ -44,3 +45,8 @@ passed f nacks destination signature payload room w h =
       signed = i.0;
       is = let e = k.1 in cc;
     }
+
+-- so it may be written
+pub fitting : (f : Fields) (nacks destination signature payload : List ℕ) (room : ℕ) (w : Written)
+    → write_of f nacks destination signature payload room ≡ values w → Fitting f nacks destination signature payload room
+fitting f nacks destination signature payload room w h = (passed f nacks destination signature payload room w h).fitting

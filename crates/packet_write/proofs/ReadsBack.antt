@@ -2,31 +2,31 @@
 -- with no leftover. Each part stands where the last one ended, so the reader finds it there, number by number and part by part; a part
 -- whose bit is clear was empty, and a number whose bit is clear was 0. Assumes nothing.
 use Prim.Native.Nat.{ℕ, ◌+◌, ◌-◌, ◌*◌, ◌/◌, ◌^◌, ◌≤◌, ◌<◌}
-use mathlib.Core.Path.{◌≡◌, refl, sym, ◌∙◌, ap}
-use mathlib.Core.Bool.{Bool, true, false, ◌&&◌, ◌||◌, not}
+use mathlib.Core.Path.{◌≡◌, refl, sym, ap}
+use mathlib.Core.Bool.{Bool, true, false, ◌&&◌, not}
 use mathlib.Core.List.{List, [], ◌∷◌, ◌++◌, append-nil}
 use native.Mathlib.Nat.{add-zero}
 use native.Mathlib.Omega.{arith}
-use borrow.Author.Tests.{ltb-false, eqb-true, not-false}
 use lib.Dec.{eqb}
 use lib.ListN.{length, take, drop}
 use lib.Seq.{take_at, take-length}
-use Rattle.terms.specs.Answers.{Saying, values}
+use Rattle.std.proofs.lemmas.Grind.{common_steps}
+use Rattle.terms.specs.Answers.{values}
 use Rattle.terms.specs.Ladder.{◌when◌else◌}
 use Rattle.terms.specs.Lists.{all}
 use Rattle.wire.specs.BigEndian.{bytes_of, bytes_of_each, number_at}
 use Rattle.wire.proofs.Laws.{length_bytes, length_each}
 use Rattle.wire.proofs.RoundTrip.{past, part_here, number_here, fits, each_numbers}
 use Rattle.packet_read.specs.Flags.{bit}
-use Rattle.packet_read.specs.Destination.{Whole, destination_in, signs_of, is_destination}
-use Rattle.packet_read.specs.Options.{destination_begins, no_destination, options_in}
-use Rattle.packet_read.specs.Reading.{nack_count, fields_read, nacks_of}
+use Rattle.packet_read.specs.Destination.{destination_in, signs_of, is_destination}
+use Rattle.packet_read.specs.Options.{destination_begins, after_destination, options_in}
+use Rattle.packet_read.specs.Reading.{nack_count, fields_read, read_of, nacks_of}
 use Rattle.packet_read.specs.declared.Found.{Found}
 use Rattle.packet_read.proofs.Moved.{destination_found}
-use Rattle.packet_read.proofs.Ways.{all_found, past_delay, past_options, fields_are}
-use Rattle.packet_write.specs.Writing.{Written, unfit, parts_unfit, signed_at, head_parts, if_there, option_parts, packet_bytes, write_of}
+use Rattle.packet_write.specs.Writing.{parts_unfit, signed_at, head_parts, if_there, option_parts, packet_bytes, write_of}
 use Rattle.packet_write.specs.RoundTrip.{Ranged, given, ReadBack, OutputBack}
 use Rattle.packet_write.specs.declared.Fields.{Fields}
+use Rattle.packet_write.specs.declared.Written.{Written}
 use Rattle.packet_write.proofs.Joins.{behind, options_length, packet_behind, length_packet, length_options}
 use Rattle.packet_write.proofs.Passed.{passed}
 
@@ -42,14 +42,6 @@ option true x at p r h z e = field 2 x at (at + 2) p [] r h refl e
 option false x at p r h z e = (sym (z refl), rw add-zero e)
 
 -- what is given for a clear bit is 0 or empty
-none_given : (there : Bool) (x : ℕ) → unfit there x ≡ false → there ≡ false → x ≡ 0
-none_given true x h e = cc
-none_given false x h e = omega (arith, ltb-false 0 x h)
-
-or_false : (a b : Bool) → (a || b) ≡ false → (a ≡ false) × (b ≡ false)
-or_false true b h = (h, cc)
-or_false false b h = (refl, h)
-
 record Clear (f : Fields) (destination signature : List ℕ) : Type 0 where
   no_delay : bit 6 f.flags ≡ false → f.delay ≡ 0
   no_destination_there : bit 5 f.flags ≡ false → length destination ≡ 0
@@ -57,28 +49,7 @@ record Clear (f : Fields) (destination signature : List ℕ) : Type 0 where
   no_signature : bit 3 f.flags ≡ false → length signature ≡ 0
 
 clear : (f : Fields) (destination signature : List ℕ) → parts_unfit f destination signature ≡ false → Clear f destination signature
-clear f destination signature h =
-    let a = or_false (unfit (bit 6 f.flags) f.delay) _ h in
-    let b = or_false (unfit (bit 5 f.flags) (length destination)) _ a.1 in
-    let c = or_false (unfit (bit 7 f.flags) f.max_size) _ b.1 in
-    record {
-      no_delay = none_given (bit 6 f.flags) f.delay a.0;
-      no_destination_there = none_given (bit 5 f.flags) (length destination) b.0;
-      no_max = none_given (bit 7 f.flags) f.max_size c.0;
-      no_signature = none_given (bit 3 f.flags) (length signature) c.1;
-    }
-
--- the sizes that the reader finds are those of the parts that were given
-size_found : (from is : Bool) (w : Saying Whole) (size s : ℕ) → (from && not is) ≡ false → (from ≡ false → size ≡ 0) → (is ≡ true → w ≡ values (record { size = size; signs = s }))
-    → values (record { size = size; signs = s when from else 0 }) ≡ (w when from else values no_destination)
-size_found true is w size s h z e = sym (e (not-false is h))
-size_found false is w size s h z e = λ i. values (record { size = z refl i; signs = 0 })
-
-signature_found : (there from : Bool) (size s rest : ℕ) → (there && (from && not (eqb size s))) ≡ false → (there ≡ false → size ≡ 0) → size ≡ rest
-    → size ≡ (((s when from else 0) when from else rest) when there else 0)
-signature_found true true size s rest h z e = eqb-true size s (not-false _ h)
-signature_found true false size s rest h z e = e
-signature_found false from size s rest h z e = z refl
+clear f destination signature h = grind (arith, common_steps)
 
 -- every field before the options, and what stands behind them
 record Head (f : Fields) (nacks : List ℕ) (options : ℕ) (r p : List ℕ) : Type 0 where
@@ -162,22 +133,14 @@ module _ (f : Fields) (nacks destination signature payload p : List ℕ) (head :
       → (bit 3 f.flags && (bit 5 f.flags && not (eqb (length signature) (signs_of destination)))) ≡ false
       → values (found_back f nacks destination signature)
       ≡ options_in p (22 + 4 * length nacks) (22 + 4 * length nacks + options_length f destination signature) f.flags
+  unfolding options_in after_destination
   options_back online form signed =
-      let at = 22 + 4 * length nacks in
-      let o = options_length f destination signature in
-      let end = at + o in
-      let from = destination_begins at f.flags in
-      let place = signed_at f nacks destination in
+      let from = destination_begins (22 + 4 * length nacks) f.flags in
+      let end = 22 + 4 * length nacks + options_length f destination signature in
       let long = length_options f destination signature in
-      let whole : Whole = record { size = length destination; signs = signs_of destination when bit 5 f.flags else 0 } in
-      let d = size_found (bit 5 f.flags) (is_destination destination) (destination_in p from end) (length destination) (signs_of destination) form none.no_destination_there
-      (λ t. destination_found p destination (if_there (bit 7 f.flags) f.max_size ++ (signature ++ payload)) from end tail.destination_here t (omega (arith, long))) in
-      let s : length signature ≡ (((signs_of destination when bit 5 f.flags else 0) when bit 5 f.flags else (end - place)) when bit 3 f.flags else 0) =
-      signature_found (bit 3 f.flags) (bit 5 f.flags) (length signature) (signs_of destination) (end - place) signed none.no_signature (omega (arith, long)) in
-      let l : end - place - length signature ≡ 0 = omega (arith, long) in
-      let found = all_found p at end f.flags whole place (omega arith) (omega (arith, long)) online (length signature) s (omega (arith, long))
-      from f.delay f.max_size refl (sym tail.delay_is) (sym tail.max_is) in
-      rw l at found ∙ past_delay p at end f.flags from refl (omega (arith, long)) (values whole) (bit 5 f.flags) refl d
+      let found : is_destination destination ≡ true → destination_in p from end ≡ values (record { size = length destination; signs = signs_of destination }) =
+      λ t. destination_found p destination (if_there (bit 7 f.flags) f.max_size ++ (signature ++ payload)) from end tail.destination_here t (omega (arith, long)) in
+      grind (arith, common_steps)
 
   fields_given : options_length f destination signature ≡ (2 when bit 6 f.flags else 0) + length destination + (2 when bit 7 f.flags else 0) + length signature
       → length p ≡ 22 + 4 * length nacks + options_length f destination signature + length payload
@@ -187,6 +150,16 @@ module _ (f : Fields) (nacks destination signature payload p : List ℕ) (head :
       let e : 22 + 4 * length nacks + options_length f destination signature ≡ signed_at f nacks destination + length signature = omega arith in
       let l : length p - (signed_at f nacks destination + length signature) ≡ length payload = omega arith in
       rw (e, l, head.send_is, head.recv_is, head.seq_is, head.ack_is, head.resend_is)
+
+-- so the answer is that record
+said_back : (f : Fields) (nacks destination signature payload p : List ℕ) → length p ≤ 65535
+    → length p ≡ 22 + 4 * length nacks + options_length f destination signature + length payload
+    → Head f nacks (options_length f destination signature) (behind (option_parts f destination signature) payload) p
+    → values (found_back f nacks destination signature) ≡ options_in p (22 + 4 * length nacks) (22 + 4 * length nacks + options_length f destination signature) f.flags
+    → fields_read p (length nacks) (22 + 4 * length nacks + options_length f destination signature) f.flags (found_back f nacks destination signature) ≡ given f nacks destination signature payload
+    → read_of p ≡ values (given f nacks destination signature payload)
+unfolding read_of
+said_back f nacks destination signature payload p short whole head options fields = grind (arith, common_steps)
 
 -- The theorem: for fields and NACKs that fit their widths, any destination, signature and payload and any room, a packet that is not
 -- refused reads back as what was given.
@@ -205,14 +178,8 @@ reads_back f nacks destination signature payload room w ranged fit h =
     let tail = tail_back f destination signature payload (22 + 4 * n) p ranged none head.then_options in
     let found = found_back f nacks destination signature in
     let options = options_back f nacks destination signature payload p head tail none ok.online ok.form ok.signed in
-    let short : length p ≤ 65535 = omega (arith, long, whole, ok.fitting.short) in
-    let en = sym head.count_is in
-    let eo = sym head.options_are in
-    let ef = sym head.flags_are in
-    let read = past_options p short (omega (arith, whole)) n en (omega (arith, whole)) o eo (omega (arith, whole)) f.flags ef (values found) options in
-    let fields = fields_are p short (omega (arith, whole)) n en (omega (arith, whole)) o eo f.flags ef found in
-    let back = fields_given f nacks destination signature payload p head tail none long whole in
-    let answer = sym read ∙ ap values (sym fields ∙ back) in
+    let fields = fields_given f nacks destination signature payload p head tail none long whole in
+    let answer : read_of p ≡ values (given f nacks destination signature payload) = said_back f nacks destination signature payload p (omega (arith, long, whole, ok.fitting.short)) whole head options fields in
     let nack_bytes : nacks_of p ≡ bytes_of_each 4 nacks = rw answer head.nack_bytes in
     let four : 4 * n / 4 ≡ n = omega arith in
     record {
@@ -232,11 +199,11 @@ pub output_reads_back : (f : Fields) (nacks destination signature payload output
 output_reads_back f nacks destination signature payload output w ranged fit h =
     let p = packet_bytes f nacks destination signature payload in
     let ok = passed f nacks destination signature payload (length output) w h in
-    let long : length p ≡ w.length_is =
-    omega (arith, length_packet f nacks destination signature payload, length_options f destination signature, ap (λ (x : Written). x.length_is) ok.is) in
+    let long : length p ≡ w.length =
+    omega (arith, length_packet f nacks destination signature payload, length_options f destination signature, ap (λ (x : Written). x.length) ok.is) in
     record {
       read_back = reads_back f nacks destination signature payload (length output) w ranged fit h;
-      begins = rw h (take_at p (drop (length p) output) w.length_is long);
+      begins = rw h (take_at p (drop (length p) output) w.length long);
       long = long;
-      signature_there = ap (λ (x : Written). x.signature_begins) ok.is;
+      signature_there = ap (λ (x : Written). x.signature_at) ok.is;
     }

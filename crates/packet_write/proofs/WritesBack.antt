@@ -4,33 +4,32 @@
 -- are covered. Assumes nothing.
 use Prim.Native.Nat.{ℕ, ◌+◌, ◌-◌, ◌*◌, ◌/◌, ◌≤◌}
 use mathlib.Core.Path.{◌≡◌, refl, sym, ◌∙◌, ap, subst}
-use mathlib.Core.Bool.{Bool, true, false, ◌&&◌, ◌||◌, not}
+use mathlib.Core.Bool.{Bool, true, false, ◌&&◌, not}
 use mathlib.Core.List.{List, ◌++◌}
 use native.Mathlib.Nat.{add-zero}
 use native.Mathlib.Omega.{arith}
-use borrow.Author.Tests.{le-ltb, eq-eqb}
 use lib.Dec.{eqb}
 use lib.ListN.{length, take, drop, length-drop, take-append-drop}
 use lib.Seq.{take_all, drop-drop, length-take-le}
-use Rattle.terms.specs.Answers.{Saying, values}
+use Rattle.std.proofs.lemmas.Grind.{common_steps}
+use Rattle.terms.specs.Answers.{values}
 use Rattle.terms.specs.Ladder.{◌when◌else◌}
 use Rattle.terms.specs.Lists.{all}
 use Rattle.wire.specs.BigEndian.{is_byte, bytes_of, bytes_of_each, number_at, numbers_at}
 use Rattle.wire.proofs.RoundTrip.{number_small, peel, peel_each, length_numbers}
 use Rattle.packet_read.specs.Flags.{bit}
-use Rattle.packet_read.specs.Destination.{Whole, destination_in, signs_of, is_destination}
-use Rattle.packet_read.specs.Options.{destination_begins, max_at, signature_at, no_destination, signature_size, found}
+use Rattle.packet_read.specs.Destination.{destination_in, signs_of, is_destination}
+use Rattle.packet_read.specs.Options.{destination_begins, signature_at, signature_size, found}
 use Rattle.packet_read.specs.Reading.{nack_count, flags_of, options_at, options_end, fields_read, read_of, fields_in, fields_of, spanned}
 use Rattle.packet_read.specs.declared.Packet.{Packet}
 use Rattle.packet_read.proofs.Form.{size_inside}
 use Rattle.packet_read.proofs.Moved.{destination_alone}
 use Rattle.packet_read.proofs.Looks.{nack_numbers}
 use Rattle.packet_read.proofs.Readable.{Readable, readable}
-use Rattle.packet_write.specs.Writing.{written, unfit, parts_unfit, signed_at, head_parts, if_there, option_parts, packet_bytes, write_of}
+use Rattle.packet_write.specs.Writing.{written, parts_unfit, signed_at, head_parts, if_there, option_parts, packet_bytes, write_of}
 use Rattle.packet_write.specs.RoundTrip.{fields_again, WrittenBack}
 use Rattle.packet_write.specs.declared.Fields.{Fields}
 use Rattle.packet_write.proofs.Joins.{behind, options_length, packet_behind, length_options}
-use Rattle.packet_write.proofs.Ways.{it_fits, by_length_lem}
 
 -- the list l, in front of what goes on as the packet does
 in_front : (l : List ℕ) {r s t : List ℕ} → r ≡ s → l ++ s ≡ t → l ++ r ≡ t
@@ -51,36 +50,6 @@ module _ (p : List ℕ) (bytes : all is_byte p ≡ true) where
       → if_there there (number_at 2 at p when there else 0) ++ drop (at + (2 when there else 0)) p ≡ drop at p
   peel_option true at h = peel p bytes 2 at h
   peel_option false at h = rw add-zero
-
--- a clear bit has the number 0
-number_clear : (there : Bool) (x : ℕ) → there ≡ false → (x when there else 0) ≡ 0
-number_clear there x e = rw e
-
--- a destination of this size was found, or there was none
-when_from : (from : Bool) (w : Saying Whole) (d : Whole) → (w when from else values no_destination) ≡ values d → from ≡ true → w ≡ values d
-when_from from w d h e = rw e at h
-
-when_absent : (from : Bool) (w : Saying Whole) (d : Whole) → (w when from else values no_destination) ≡ values d → from ≡ false → d.size ≡ 0
-when_absent from w d h e =
-    let z : values no_destination ≡ values d = rw e at h in
-    let n : no_destination ≡ d = cc z in
-    sym (ap (λ (x : Whole). x.size) n)
-
-none_unfit : (there : Bool) (x : ℕ) → (there ≡ false → x ≡ 0) → unfit there x ≡ false
-none_unfit true x h = refl
-none_unfit false x h = le-ltb 0 x (omega (arith, h refl))
-
-or_of : (a b : Bool) → a ≡ false → b ≡ false → (a || b) ≡ false
-or_of a b e f = rw (e, f)
-
-form_of : (from is : Bool) → (from ≡ true → is ≡ true) → (from && not is) ≡ false
-form_of true is h = rw (h refl)
-form_of false is h = refl
-
-signed_of : (there from : Bool) (size signs s rest : ℕ) → size ≡ ((s when from else rest) when there else 0) → (from ≡ true → signs ≡ s) → (there && (from && not (eqb size signs))) ≡ false
-signed_of true true size signs s rest e f = rw (eq-eqb size signs (e ∙ sym (f refl)))
-signed_of true false size signs s rest e f = refl
-signed_of false from size signs s rest e f = refl
 
 -- a packet that is read with the fields v
 module _ (p : List ℕ) (v : Packet) (bytes : all is_byte p ≡ true) (r : Readable p v) where
@@ -174,33 +143,34 @@ module _ (p : List ℕ) (v : Packet) (bytes : all is_byte p ≡ true) (r : Reada
     bytes_again = packet_behind fields nacks destination signature payload ∙ packet_again
 
     fit_again : parts_unfit fields destination signature ≡ false
-    fit_again =
-        or_of _ _ (none_unfit (bit 6 flags) fields.delay (number_clear (bit 6 flags) (number_at 2 at p)))
-        (or_of _ _ (none_unfit (bit 5 flags) (length destination) (λ e. destination_long ∙ when_absent (bit 5 flags) (destination_in p from end) r.d r.held.there e))
-        (or_of _ _ (none_unfit (bit 7 flags) fields.max_size (number_clear (bit 7 flags) (number_at 2 (max_at at flags r.d.size) p)))
-        (none_unfit (bit 3 flags) (length signature) (λ e. signature_long ∙ number_clear (bit 3 flags) (r.d.signs when bit 5 flags else (end - place)) e))))
+    fit_again = let d = r.held.there in let a = destination_long in let b = signature_long in grind (arith, common_steps)
 
     -- where there is a destination, it is one by itself
     alone : bit 5 flags ≡ true → (signs_of destination ≡ r.d.signs) × (is_destination destination ≡ true)
     alone e =
-        destination_alone p destination (drop r.d.size (drop from p)) from end (sym (take-append-drop r.d.size (drop from p))) r.d.signs
-        (when_from (bit 5 flags) (destination_in p from end) r.d r.held.there e ∙ λ i. values (record { size = sym destination_long i; signs = r.d.signs }))
+        let there : destination_in p from end ≡ values (record { size = length destination; signs = r.d.signs }) =
+        let d = r.held.there in let a = destination_long in grind (arith, common_steps) in
+        destination_alone p destination (drop r.d.size (drop from p)) from end (sym (take-append-drop r.d.size (drop from p))) r.d.signs there
 
     form_again : (bit 5 flags && not (is_destination destination)) ≡ false
-    form_again = form_of (bit 5 flags) (is_destination destination) (λ e. (alone e).1)
+    form_again = grind (arith, common_steps, alone)
 
     signed_again : (bit 3 flags && (bit 5 flags && not (eqb (length signature) (signs_of destination)))) ≡ false
-    signed_again = signed_of (bit 3 flags) (bit 5 flags) (length signature) (signs_of destination) r.d.signs (end - place) signature_long (λ e. (alone e).0)
+    signed_again = let b = signature_long in grind (arith, common_steps, alone)
 
     accepted_again : (room : ℕ) → length p ≤ room → write_of fields nacks destination signature payload room ≡ written (length p) (place when bit 3 flags else 0)
+    unfolding write_of
     accepted_again room h =
         let m = length nacks in
         let em : m ≡ n = length_numbers 4 n 17 p in
         let few : m ≤ 255 = omega (arith, number_small p bytes 1 16 (omega arith)) in
         let ep : place ≡ signed_at fields nacks destination = omega (arith, destination_long) in
         let es : place + length signature + length payload ≡ length p = omega (arith, signature_long, ap length payload_is ∙ length-drop end p) in
-        let fits = it_fits flags m (length destination) (length signature) (length payload) room place ep (omega arith) (omega arith) (place when bit 3 flags else 0) refl in
-        sym (by_length_lem fields nacks destination signature payload room few r.held.online fit_again form_again signed_again) ∙ sym fits ∙ rw es
+        let off = r.held.online in
+        let fit = fit_again in
+        let form = form_again in
+        let signs = signed_again in
+        grind (arith, common_steps)
 
 -- what was written of these fields and parts, as a record of the packet alone
 record Again (p : List ℕ) (v : Packet) (nacks : List ℕ) : Type 0 where

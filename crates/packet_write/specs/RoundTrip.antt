@@ -8,8 +8,9 @@ use Rattle.packet_read.specs.Flags.{bit}
 use Rattle.packet_read.specs.Options.{destination_begins}
 use Rattle.packet_read.specs.Reading.{read_of, nacks_of, nack_numbers_of, destination_of, signature_of, payload_of}
 use Rattle.packet_read.specs.declared.Packet.{Packet}
-use Rattle.packet_write.specs.Writing.{Written, written, signed_at, packet_bytes, write_of, output_after}
+use Rattle.packet_write.specs.Writing.{written, signed_at, packet_bytes, write_of, output_after}
 use Rattle.packet_write.specs.declared.Fields.{Fields}
+use Rattle.packet_write.specs.declared.Written.{Written}
 
 -- WRITTEN, THEN READ
 
@@ -55,9 +56,9 @@ module _ (f : Fields) (nacks destination signature payload : List ℕ) where
   -- What the answer w leaves in the output: the packet at its front, as long as w says, with the signature where w says.
   pub record OutputBack (output : List ℕ) (w : Written) : Type 0 where
     pub read_back : ReadBack (packet_bytes f nacks destination signature payload)
-    pub begins : take w.length_is (output_after f nacks destination signature payload output) ≡ packet_bytes f nacks destination signature payload
-    pub long : length (packet_bytes f nacks destination signature payload) ≡ w.length_is
-    pub signature_there : w.signature_begins ≡ (given.signature.at when bit 3 f.flags else 0)
+    pub begins : take w.length (output_after f nacks destination signature payload output) ≡ packet_bytes f nacks destination signature payload
+    pub long : length (packet_bytes f nacks destination signature payload) ≡ w.length
+    pub signature_there : w.signature_at ≡ (given.signature.at when bit 3 f.flags else 0)
 
 -- READ, THEN WRITTEN
 

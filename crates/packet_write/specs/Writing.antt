@@ -3,27 +3,16 @@ use Rattle.std.specs.Prelude.{ℕ, ◌+◌, ◌*◌, ◌≤◌, Bool, ◌&&◌, 
 use Rattle.terms.specs.Answers.{Saying, refusal, values, ◌unless_refused◌else◌}
 use Rattle.terms.specs.Ladder.{◌when◌else◌}
 use Rattle.terms.specs.Lists.{◌at_front_of◌, joined}
-use Rattle.terms.specs.Refusals.{number_of}
 use Rattle.wire.specs.BigEndian.{bytes_of, bytes_of_each}
 use Rattle.packet_read.specs.Flags.{bit}
 use Rattle.packet_read.specs.Destination.{signs_of, is_destination}
 use Rattle.packet_read.specs.Options.{signature_at}
 use Rattle.packet_write.specs.declared.Fields.{Fields}
-use Rattle.packet_write.specs.declared.Writing.{Writing}
-use Rattle.packet_write.specs.declared.Writing.TheVariants as W
+use Rattle.packet_write.specs.declared.Written.{Written}
 
 -- It answers the length and where the signature begins, 0 without bit 3.
-pub record Written : Type 0 where
-  pub length_is : ℕ
-  pub signature_begins : ℕ
-
 abbrev pub written : ℕ → ℕ → Saying Written
-written n at = values (record { length_is = n; signature_begins = at })
-
--- what an answer says
-abbrev pub said_writing : Writing → Saying Written
-said_writing (W.Refused r) = refusal (number_of r)
-said_writing (W.Written n at) = written n at
+written n at = values (record { length = n; signature_at = at })
 
 -- a part or number that is given, so many bytes or so much, although its bit is clear
 abbrev pub unfit : Bool → ℕ → Bool

@@ -1,157 +1,107 @@
 // Whether a packet can be written, how long it is, and where its signature begins.
-ghost use Rattle.std.specs.Prelude.{◌≡◌, true, false, ◌&&◌, not, ◌+◌, ◌*◌, ◌≤◌, ◌<◌, ltb, eqb};
-ghost use Rattle.terms.specs.Answers.{refusal};
+ghost use Rattle.std.specs.Prelude.{◌≡◌, [], ◌&&◌, not, ◌+◌, ◌*◌, ◌/◌, ◌%◌, ◌≤◌, ◌<◌, ltb, eqb, length};
+ghost use Rattle.terms.specs.Answers.{refusal, values, said, saying};
 ghost use Rattle.terms.specs.Ladder.{◌when◌else◌};
 ghost use Rattle.packet_read.specs.Flags.{bit};
-ghost use Rattle.packet_read.specs.Destination.{is_destination};
+ghost use Rattle.packet_read.specs.Destination.{signs_of, is_destination};
 ghost use Rattle.packet_read.specs.Options.{signature_at};
-ghost use Rattle.packet_write.specs.Writing.{said_writing, written, unfit, parts_unfit, write_of};
+ghost use Rattle.packet_write.specs.Writing.{written, unfit, parts_unfit, write_of};
 
-use super::{Fields, Writing};
+use super::{Fields, Parts, Written};
 use packet_read::flags;
 use terms::Refusal;
 
-// A part or number that is given although its bit is clear.
-fn unfit(there: bool, given: usize) -> bool
-    ensures { result ≡ unfit there given }
+// A part or number that is given although the bit of this weight is clear.
+fn unfit(flags: u16, weight: u16, given: usize) -> bool
+    requires { 0 < weight }
+    ensures { result ≡ unfit (eqb (flags / weight % 2) 1) given }
 {
-    if there {
-        return false;
-    }
-    0 < given
+    !flags::has(flags, weight) && given > 0
 }
 
 // A part or number given for any clear bit.
-fn parts_unfit(fields: Fields, destination: &[u8], signature: &[u8]) -> bool
-    ensures { result ≡ parts_unfit fields destination.now signature.now }
+fn parts_unfit(fields: Fields, parts: Parts) -> bool
+    ensures { result ≡ parts_unfit fields parts.entry.destination.now parts.entry.signature.now }
 {
     let flags = fields.flags;
-    let delay = unfit(flags::has(flags, flags::DELAY), fields.delay as usize);
-    let from = unfit(flags::has(flags, flags::FROM), destination.len());
-    let max_size = unfit(flags::has(flags, flags::MAX_SIZE), fields.max_size as usize);
-    let signed = unfit(flags::has(flags, flags::SIGNATURE), signature.len());
-    delay | (from | (max_size | signed))
+    unfit(flags, flags::DELAY, usize::from(fields.delay))
+        || unfit(flags, flags::FROM, parts.destination.len())
+        || unfit(flags, flags::MAX_SIZE, usize::from(fields.max_size))
+        || unfit(flags, flags::SIGNATURE, parts.signature.len())
 }
 
-// A destination that is there and has another form.
-fn other_form(from: bool, destination: &[u8]) -> bool
-    ensures { result ≡ (from && not (is_destination destination.now)) }
+// With bit 5 the destination is exactly one, and with bit 3 too the signature is as long as that one's signatures.
+fn signing_fits(flags: u16, parts: Parts) -> Result<(), Refusal>
+    ensures { said result
+        ≡ (refusal 4 when bit 5 flags && not (is_destination parts.entry.destination.now) else
+        refusal 9 when bit 3 flags && (bit 5 flags && not (eqb (length parts.entry.signature.now) (signs_of parts.entry.destination.now))) else
+        values []) }
 {
-    if !from {
-        return false;
+    if !flags::has(flags, flags::FROM) {
+        return Ok(());
     }
-    packet_read::signature_length(destination) == 0
+    let Some(signs) = packet_read::signature_length(parts.destination) else {
+        return Err(Refusal::DestinationForm);
+    };
+    if flags::has(flags, flags::SIGNATURE) && parts.signature.len() != signs {
+        return Err(Refusal::PartsUnfit);
+    }
+    Ok(())
 }
 
-// A signature that is there beside a destination and has another length than that one's signatures.
-fn other_length(signed: bool, from: bool, signature: usize, signs: usize) -> bool
-    ensures { result ≡ (signed && (from && not (eqb signature signs))) }
+// How many bytes the delay and the maximum size take.
+pub(super) fn numbers_size(flags: u16) -> usize
+    ensures { (result ≡ (2 when bit 6 flags else 0) + (2 when bit 7 flags else 0)) × (result ≤ 4) }
 {
-    if !signed {
-        return false;
-    }
-    if !from {
-        return false;
-    }
-    signature != signs
+    flags::size_if(flags::has(flags, flags::DELAY), 2)
+        + flags::size_if(flags::has(flags, flags::MAX_SIZE), 2)
 }
 
-// How many option bytes stand before the signature.
-pub(super) fn before_signature(flags: u16, destination: usize) -> usize
-    requires { destination ≤ 65535 }
-    ensures { (result ≡ (2 when bit 6 flags else 0) + destination + (2 when bit 7 flags else 0)) × (result ≤ destination + 4) }
+// The last two refusals, which go by lengths. A sum that leaves the width is too long as well.
+fn sizes(flags: u16, parts: Parts, room: usize) -> Result<Written, Refusal>
+    requires { length parts.nacks.now ≤ 255 }
+    ensures { let at = signature_at (22 + 4 * length parts.entry.nacks.now) flags (length parts.entry.destination.now) in
+        let size = at + length parts.entry.signature.now + length parts.entry.payload.now in
+        saying result ≡ (refusal 2 when ltb 65535 size else refusal 7 when ltb room size else written size (at when bit 3 flags else 0)) }
 {
-    let delay = flags::size_if(flags::has(flags, flags::DELAY), 2);
-    let max_size = flags::size_if(flags::has(flags, flags::MAX_SIZE), 2);
-    delay + destination + max_size
-}
-
-// A part that is longer than any packet, so that no sum is taken of lengths that could leave the width.
-fn part_long(destination: usize, signature: usize, payload: usize) -> bool
-    ensures { (result ≡ true → 65535 < destination + signature + payload) × (result ≡ false → (destination ≤ 65535) × (signature ≤ 65535) × (payload ≤ 65535)) }
-{
-    if destination > 65535 {
-        return true;
-    }
-    if signature > 65535 {
-        return true;
-    }
-    payload > 65535
-}
-
-// The last two refusals, which go by lengths.
-fn sizes(
-    flags: u16,
-    nacks: usize,
-    destination: usize,
-    signature: usize,
-    payload: usize,
-    room: usize,
-) -> Writing
-    requires { nacks ≤ 255 }
-    ensures { said_writing result
-        ≡ (refusal 2 when ltb 65535 (signature_at (22 + 4 * nacks) flags destination + signature + payload) else
-        refusal 7 when ltb room (signature_at (22 + 4 * nacks) flags destination + signature + payload) else
-        written (signature_at (22 + 4 * nacks) flags destination + signature + payload) (signature_at (22 + 4 * nacks) flags destination when bit 3 flags else 0)) }
-{
-    if part_long(destination, signature, payload) {
-        return Writing::Refused(Refusal::PacketLong);
-    }
-    let signature_at = 22 + 4 * nacks + before_signature(flags, destination);
-    let length = signature_at + signature + payload;
+    let options_at = 22 + 4 * parts.nacks.len();
+    let signature_at = parts
+        .destination
+        .len()
+        .saturating_add(options_at + numbers_size(flags));
+    let length = signature_at
+        .saturating_add(parts.signature.len())
+        .saturating_add(parts.payload.len());
     if length > 65535 {
-        return Writing::Refused(Refusal::PacketLong);
+        return Err(Refusal::PacketLong);
     }
     if room < length {
-        return Writing::Refused(Refusal::OutputShort);
+        return Err(Refusal::OutputShort);
     }
-    let begins = flags::size_if(flags::has(flags, flags::SIGNATURE), signature_at);
-    Writing::Written(length, begins)
+    Ok(Written {
+        length,
+        signature_at: flags::size_if(flags::has(flags, flags::SIGNATURE), signature_at),
+    })
 }
 
 // The refusals in document 01's order, or the lengths.
-pub(super) fn judge(
-    fields: Fields,
-    nacks: &[u32],
-    destination: &[u8],
-    signature: &[u8],
-    payload: &[u8],
-    room: usize,
-) -> Writing
-    ensures { said_writing result ≡ write_of fields nacks.now destination.now signature.now payload.now room }
+#[tactic(auto, unfolding(crate::specs::Writing::write_of))]
+pub(super) fn judge(fields: Fields, parts: Parts, room: usize) -> Result<Written, Refusal>
+    ensures { saying result ≡ write_of fields parts.entry.nacks.now parts.entry.destination.now parts.entry.signature.now parts.entry.payload.now room }
 {
     let flags = fields.flags;
-    if nacks.len() > 255 {
-        return Writing::Refused(Refusal::NacksMany);
+    if parts.nacks.len() > 255 {
+        return Err(Refusal::NacksMany);
     }
-    let from = flags::has(flags, flags::FROM);
     if flags::has(flags, flags::OFFLINE) {
-        if from {
-            return Writing::Refused(Refusal::OfflineBlock);
+        if flags::has(flags, flags::FROM) {
+            return Err(Refusal::OfflineBlock);
         }
-        return Writing::Refused(Refusal::OfflineAlone);
+        return Err(Refusal::OfflineAlone);
     }
-    if parts_unfit(fields, destination, signature) {
-        return Writing::Refused(Refusal::PartsUnfit);
+    if parts_unfit(fields, parts) {
+        return Err(Refusal::PartsUnfit);
     }
-    if other_form(from, destination) {
-        return Writing::Refused(Refusal::DestinationForm);
-    }
-    let signs = packet_read::signature_length(destination);
-    if other_length(
-        flags::has(flags, flags::SIGNATURE),
-        from,
-        signature.len(),
-        signs,
-    ) {
-        return Writing::Refused(Refusal::PartsUnfit);
-    }
-    sizes(
-        flags,
-        nacks.len(),
-        destination.len(),
-        signature.len(),
-        payload.len(),
-        room,
-    )
+    signing_fits(flags, parts)?;
+    sizes(flags, parts, room)
 }

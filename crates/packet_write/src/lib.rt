@@ -9,7 +9,8 @@ mod judge;
 mod put;
 
 ghost use Rattle.std.specs.Prelude.{◌≡◌, length};
-ghost use Rattle.packet_write.specs.Writing.{said_writing, write_of, output_after};
+ghost use Rattle.terms.specs.Answers.{saying};
+ghost use Rattle.packet_write.specs.Writing.{write_of, output_after};
 
 use terms::{Refusal, SeqNo, StreamId};
 
@@ -26,15 +27,25 @@ pub struct Fields {
     pub max_size: u16,
 }
 
-// The answer of `write`: how long the packet is and where its signature begins, 0 without bit 3.
+// What a packet holds beside its numbers.
 #[derive(Clone, Copy)]
-pub enum Writing {
-    Written(usize, usize),
-    Refused(Refusal),
+struct Parts<'a> {
+    nacks: &'a [u32],
+    destination: &'a [u8],
+    signature: &'a [u8],
+    payload: &'a [u8],
+}
+
+// How long the packet is that was written, and where its signature begins, 0 without bit 3, as document 01 promises.
+#[derive(Clone, Copy, Debug, PartialEq, Eq)]
+pub struct Written {
+    pub length: usize,
+    pub signature_at: usize,
 }
 
 // Writes a packet to the front of the output. Refusals in document 01's order: 8, 5, 6, 9 for clear bits, 4, 9 for the
 // signature, 2, 7. Bytes beyond the packet's length stay, and a refused call leaves every byte.
+#[tactic(auto, using(crate::proofs::Passed::fitting))]
 pub fn write(
     fields: Fields,
     nacks: &[u32],
@@ -42,13 +53,17 @@ pub fn write(
     signature: &[u8],
     payload: &[u8],
     output: &mut [u8],
-) -> Writing
-    ensures result_value { said_writing result ≡ write_of fields nacks.now destination.now signature.now payload.now (length output.old) }
+) -> Result<Written, Refusal>
+    ensures result_value { saying result ≡ write_of fields nacks.now destination.now signature.now payload.now (length output.old) }
     ensures output_after { output.new ≡ output_after fields nacks.now destination.now signature.now payload.now output.old }
 {
-    let answer = judge::judge(fields, nacks, destination, signature, payload, output.len());
-    if let Writing::Written(_, _) = answer {
-        put::packet(fields, nacks, destination, signature, payload, output);
-    }
-    answer
+    let parts = Parts {
+        nacks,
+        destination,
+        signature,
+        payload,
+    };
+    let written = judge::judge(fields, parts, output.len())?;
+    put::packet(fields, parts, output);
+    Ok(written)
 }
