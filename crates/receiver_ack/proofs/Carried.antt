@@ -2,16 +2,15 @@
 -- NACKs and payload. The plain acknowledgement is one, with number 0 and no payload; a sender's packets are the others. Assumes nothing.
 use Prim.Native.Nat.{ℕ, ◌^◌, ◌≤◌, ◌<◌}
 use mathlib.Core.Path.{◌≡◌, sym, ◌∙◌, ap}
-use mathlib.Core.Bool.{true, ◌&&◌, not}
+use mathlib.Core.Bool.{true, not}
 use mathlib.Core.List.{List, []}
 use native.Mathlib.Omega.{arith}
-use borrow.Author.Tests.{le-ltb, lt-ltb, leb-true}
-use lib.Dec.{leb}
+use borrow.Author.Tests.{le-ltb}
 use lib.ListN.{length, drop}
+use Rattle.std.proofs.lemmas.Bool.Decides.{nat_tests}
 use Rattle.terms.specs.declared.StreamId.{StreamId}
 use Rattle.terms.specs.Answers.{values}
 use Rattle.terms.specs.Lists.{all}
-use Rattle.terms.proofs.Laws.{rung, and_left, and_right}
 use Rattle.wire.specs.BigEndian.{numbers_at}
 use Rattle.wire.proofs.RoundTrip.{fits, number_here}
 use Rattle.packet_read.specs.Reading.{nack_count, read_of, fields_of, destination_of, signature_of, payload_of}
@@ -21,7 +20,6 @@ use Rattle.packet_write.specs.RoundTrip.{Ranged, given}
 use Rattle.packet_write.specs.declared.Fields.{Fields}
 use Rattle.packet_write.proofs.Joins.{behind, options_length, packet_behind}
 use Rattle.packet_write.proofs.ReadsBack.{reads_back}
-use Rattle.receiver_state.specs.Slots.{is_free, mark_of}
 use Rattle.receiver_state.specs.Rules.{rules_of}
 use Rattle.receiver_calls.specs.Meaning.{standing, is_missing}
 use Rattle.receiver_state.specs.declared.Receiver.{Receiver}
@@ -55,26 +53,21 @@ module _ (r : Receiver) (send recv : StreamId) where
     unfolding fields_from
     ranged s t n =
         let k = ruled r keeps in
-        let choked = at_least255 (missing_from r.head.next.0 r.head.highest.0 r.marks) in
         record {
           send_fits = s;
           recv_fits = t;
           seq_fits = n;
           ack_fits = omega (arith, through_at_most r, k.last);
           resend_fits = omega arith;
-          flags_fit = rung (λ (x : ℕ). x < 2 ^ 16) choked (λ e. omega arith) (λ e. omega arith);
-          delay_fits = rung (λ (x : ℕ). x < 2 ^ 16) choked (λ e. omega arith) (λ e. omega arith);
+          flags_fit = grind (arith, nat_tests);
+          delay_fits = grind (arith, nat_tests);
           max_fits = omega arith;
         }
 
     nacks_fit : all (fits 4) (ack_nacks_of r) ≡ true
     nacks_fit =
-        let k = ruled r keeps in
-        all_implies (is_missing r) (fits 4) (ack_nacks_of r)
-        (λ n h.
-        let up = and_left (leb n r.head.highest.0) (is_free (mark_of r.marks n)) (and_right (leb r.head.next.0 n) (leb n r.head.highest.0 && is_free (mark_of r.marks n)) h) in
-        lt-ltb n (256 ^ 4) (omega (arith, leb-true n r.head.highest.0 up, k.last)))
-        (nacks_missing r)
+        let last = (ruled r keeps).last in
+        all_implies (is_missing r) (fits 4) (ack_nacks_of r) (λ n h. grind (arith, nat_tests)) (nacks_missing r)
 
     -- with 65,535 bytes of room the writer takes it
     taken : length payload ≤ 64491 → write_of (acked_fields (ack_fields_of r) send recv number) (ack_nacks_of r) [] [] payload 65535

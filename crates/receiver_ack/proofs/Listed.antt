@@ -7,8 +7,9 @@ use mathlib.Core.List.{List, [], ◌∷◌, ◌++◌, append_assoc, append-nil}
 use native.Mathlib.Nat.{add-zero}
 use native.Mathlib.Numerals.{add-one}
 use native.Mathlib.Omega.{arith}
-use lib.ListN.{length, get_or, drop, set, length-append, length-set}
+use lib.ListN.{length, get_or, drop, set, length-append}
 use lib.Seq.{drop-cons, set-append_seam}
+use Rattle.std.proofs.lemmas.Bool.Decides.{nat_tests}
 use Rattle.terms.specs.Ladder.{◌when◌else◌}
 use Rattle.terms.specs.Lists.{◌at_front_of◌}
 use Rattle.receiver_ack.specs.Missing.{counted, those, not_held, missing_from}
@@ -19,13 +20,9 @@ counted_more first (suc k) =
     let e : suc first + k ≡ first + suc k = omega arith in
     ap (λ (l : List ℕ). first ∷ l) (counted_more (suc first) k ∙ ap (λ (m : ℕ). counted (suc first) k ++ (m ∷ [])) e)
 
-first_passes : (t : Bool) (n : ℕ) (a b : List ℕ) → ((n ∷ (a ++ b)) when t else (a ++ b)) ≡ ((n ∷ a) when t else a) ++ b
-first_passes true n a b = refl
-first_passes false n a b = refl
-
 those_append : (test : ℕ → Bool) (a b : List ℕ) → those test (a ++ b) ≡ those test a ++ those test b
 those_append test [] b = refl
-those_append test (n ∷ a) b = rw (those_append test a b) (first_passes (test n) n (those test a) (those test b))
+those_append test (n ∷ a) b = grind (arith, nat_tests, those_append test a b)
 
 -- one number more behind those that stand at the front
 one_behind : (l table : List ℕ) (n : ℕ) → length l < length table → set (l at_front_of table) (length l) n ≡ (l ++ (n ∷ [])) at_front_of table
@@ -40,10 +37,8 @@ abbrev listed : (ℕ → Bool) → ℕ → ℕ → List ℕ
 listed test next n = those test (counted next (n - next))
 
 pub record Listed (test : ℕ → Bool) (next highest : ℕ) (before table : List ℕ) (count n : ℕ) : Type 0 where
-  pub low : next ≤ n
   pub high : n ≤ max next (highest + 1)
   pub few : count ≤ n - next
-  pub long : length table ≡ length before
   pub many : count ≡ length (listed test next n)
   pub are : table ≡ listed test next n at_front_of before
 
@@ -57,44 +52,25 @@ module _ (test : ℕ → Bool) (next highest : ℕ) (before : List ℕ) where
       ∙ those_append test (counted next (n - next)) ((next + (n - next)) ∷ [])
       ∙ ap (λ (m : ℕ). listed test next n ++ ((m ∷ []) when test m else [])) f
 
-  pub list_start : Listed test next highest before before 0 next
-  list_start =
-      let e : next - next ≡ 0 = omega arith in
-      record { low = omega arith; high = omega arith; few = omega arith; long = refl; many = rw e; are = rw e }
-
-  pub list_found : (table : List ℕ) (count n : ℕ) → Listed test next highest before table count n → n ≤ highest → test n ≡ true → count < length before
+  pub list_found : (table : List ℕ) (count n : ℕ) → Listed test next highest before table count n → next ≤ n → n ≤ highest → test n ≡ true → count < length before
       → Listed test next highest before (set table count n) (count + 1) (n + 1)
-  list_found table count n l within free room =
-      let more : listed test next (n + 1) ≡ listed test next n ++ (n ∷ []) =
-      listed_more n l.low ∙ rw free in
+  list_found table count n l low within free room =
+      let more : listed test next (n + 1) ≡ listed test next n ++ (n ∷ []) = listed_more n low ∙ rw free in
       record {
-        low = omega arith;
         high = omega arith;
         few = omega arith;
-        long = length-set table count n ∙ l.long;
         many = rw (more, length-append) (omega (arith, l.many));
-        are = ap (λ (t : List ℕ). set t count n) l.are ∙ ap (λ (k : ℕ). set (listed test next n at_front_of before) k n) l.many
-            ∙ one_behind (listed test next n) before n (omega (arith, l.many)) ∙ rw more;
+        are = rw (l.are, more, l.many) (one_behind (listed test next n) before n (omega (arith, l.many)));
       }
 
-  pub list_passed : (table : List ℕ) (count n : ℕ) → Listed test next highest before table count n → n ≤ highest → test n ≡ false
-      → Listed test next highest before table count (n + 1)
-  list_passed table count n l within full =
-      let more : listed test next (n + 1) ≡ listed test next n =
-      listed_more n l.low ∙ rw full (append-nil (listed test next n)) in
-      record {
-        low = omega arith;
-        high = omega arith;
-        few = omega arith;
-        long = l.long;
-        many = rw more l.many;
-        are = rw more l.are;
-      }
+  pub list_passed : (table : List ℕ) (count n : ℕ) → Listed test next highest before table count n → next ≤ n → n ≤ highest → test n ≡ false → Listed test next highest before table count (n + 1)
+  list_passed table count n l low within full =
+      let more : listed test next (n + 1) ≡ listed test next n = listed_more n low ∙ rw full (append-nil (listed test next n)) in
+      record { high = omega arith; few = omega arith; many = rw more l.many; are = rw more l.are }
 
-module _ (next highest : ℕ) (marks before : List ℕ) where
-  pub list_end : (table : List ℕ) (count n : ℕ) → Listed (not_held marks) next highest before table count n → highest < n
-      → (count ≡ length (missing_from next highest marks)) × (table ≡ missing_from next highest marks at_front_of before)
-  unfolding missing_from
-  list_end table count n l past =
-      let e : n - next ≡ highest + 1 - next = omega arith in
-      (l.many ∙ rw e, l.are ∙ rw e)
+-- past the last number it is the whole list
+pub list_end : (next highest : ℕ) (marks : List ℕ) (n : ℕ) → next ≤ n → n ≤ max next (highest + 1) → highest < n → listed (not_held marks) next n ≡ missing_from next highest marks
+unfolding missing_from
+list_end next highest marks n low high past =
+    let e : n - next ≡ highest + 1 - next = omega arith in
+    rw e

@@ -1,19 +1,20 @@
 -- The plain acknowledgement, told by its answer and by the packet as our reader reads it: what a run of calls is reasoned with, in place
 -- of the definitions' text. Assumes nothing.
 use Prim.Native.Nat.{ℕ, ◌*◌, ◌^◌, ◌≤◌, ◌<◌}
-use mathlib.Core.Path.{◌≡◌, refl, sym, ◌∙◌}
-use mathlib.Core.Bool.{Bool, true, false, not}
+use mathlib.Core.Path.{◌≡◌, sym, ◌∙◌}
+use mathlib.Core.Bool.{true, false}
 use mathlib.Core.List.{List, [], ◌∷◌}
 use native.Mathlib.Omega.{arith}
-use borrow.Author.Tests.{le-ltb, ltb-true, ltb-false, not-false}
+use borrow.Author.Tests.{le-ltb}
 use lib.Dec.{ltb, eqb}
 use lib.ListN.{length, take, drop}
 use lib.Seq.{take_at}
+use Rattle.std.proofs.lemmas.Bool.Decides.{nat_tests}
 use Rattle.terms.specs.declared.StreamId.{StreamId}
 use Rattle.terms.specs.Ladder.{◌when◌else◌}
 use Rattle.terms.specs.Lists.{◌at_front_of◌}
-use Rattle.terms.proofs.Laws.{rung, and_left, past}
-use Rattle.terms.specs.Answers.{Said, refusal, values}
+use Rattle.terms.proofs.Laws.{and_left}
+use Rattle.terms.specs.Answers.{refusal, values}
 use Rattle.receiver_state.specs.Rules.{rules_of, slot_fits, sizes_fit}
 use Rattle.receiver_calls.specs.Meaning.{Sound}
 use Rattle.receiver_state.specs.declared.Receiver.{Receiver}
@@ -40,10 +41,6 @@ pub record Written (r : Receiver) (send recv : StreamId) (output : List ℕ) (n 
   pub long : n ≡ length (plain_ack_of r send recv)
   pub stands : (acknowledge_of r send recv output).output ≡ plain_ack_of r send recv at_front_of output
 
-only_7 : (t : Bool) (m n : ℕ) → (refusal 7 when t else values (m ∷ [])) ≡ refusal n → n ≡ 7
-only_7 true m n e = cc
-only_7 false m n e = let z : ◌≡◌ {A = ℕ} 0 1 = cc in absurd (omega arith)
-
 module _ (r : Receiver) (send recv : StreamId) where
   -- The plain ack of a receiver that keeps the rules reads as that receiver's ack.
   pub plain_ack_reads : rules_of r ≡ true → send.0 < 2 ^ 32 → recv.0 < 2 ^ 32 → ReadsAs r send recv (plain_ack_of r send recv)
@@ -53,10 +50,6 @@ module _ (r : Receiver) (send recv : StreamId) where
   -- THE CALL
 
   module _ (output : List ℕ) where
-    said_is : acknowledge_said r send recv (length output) ≡ (acknowledge_of r send recv output).says
-    unfolding acknowledge_of
-    said_is = refl
-
     -- a refusal changes nothing
     pub acknowledge_nothing : (n : ℕ) → (acknowledge_of r send recv output).says ≡ refusal n → (acknowledge_of r send recv output).output ≡ output
     unfolding acknowledge_of
@@ -79,8 +72,7 @@ module _ (r : Receiver) (send recv : StreamId) where
 
     -- a refused call: with 7 where neither the rules nor the slot size were at fault
     pub acknowledge_fair : rules_of r ≡ true → slot_fits r.head.slot ≡ true → (n : ℕ) → (acknowledge_of r send recv output).says ≡ refusal n → n ≡ 7
-    acknowledge_fair e f n h =
-        only_7 (ltb (length output) (length (plain_ack_of r send recv))) (length (plain_ack_of r send recv)) n (sym (acknowledge_by_room e f) ∙ h)
+    acknowledge_fair e f n h = let room = acknowledge_by_room e f in grind (arith, nat_tests)
 
     -- so of a state and a store that belong together
     pub acknowledge_sound : (store : List ℕ) → Sound r store → (n : ℕ) → (acknowledge_of r send recv output).says ≡ refusal n → n ≡ 7
@@ -96,30 +88,18 @@ module _ (r : Receiver) (send recv : StreamId) where
 
     pub acknowledge_never_7 : 1044 ≤ length output → (acknowledge_of r send recv output).says ≡ refusal 7 → ⊥
     unfolding acknowledge_of acknowledge_said
-    acknowledge_never_7 room =
-        let p = plain_ack_of r send recv in
-        rung (λ (s : Said). s ≡ refusal 7 → ⊥) (not (rules_of r)) (λ e h. let z : ◌≡◌ {A = ℕ} 11 7 = cc in omega arith)
-        (λ e.
-        rung (λ (s : Said). s ≡ refusal 7 → ⊥) (not (slot_fits r.head.slot)) (λ f h. let z : ◌≡◌ {A = ℕ} 10 7 = cc in omega arith)
-        (λ f.
-        rung (λ (s : Said). s ≡ refusal 7 → ⊥) (ltb (length output) (length p)) (λ g h. omega (arith, ltb-true (length output) (length p) g, at_most_1044 r send recv))
-        (λ g h. let z : ◌≡◌ {A = ℕ} 0 1 = cc in omega arith)))
+    acknowledge_never_7 room h = let most = at_most_1044 r send recv in grind (arith, nat_tests)
 
     module _ (n : ℕ) (done : (acknowledge_of r send recv output).says ≡ values (n ∷ [])) where
       pub acknowledge_written : Written r send recv output n
       unfolding acknowledge_of acknowledge_said
-      acknowledge_written =
-          let p = plain_ack_of r send recv in
-          let a = past 11 (not (rules_of r)) _ (n ∷ []) done in
-          let b = past 10 (not (slot_fits r.head.slot)) _ (n ∷ []) a.1 in
-          let c = past 7 (ltb (length output) (length p)) (values (length p ∷ [])) (n ∷ []) b.1 in
-          record {
-            keeps = not-false (rules_of r) a.0;
-            sized = not-false (slot_fits r.head.slot) b.0;
-            room = ltb-false (length output) (length p) c.0;
-            long = let e = c.1 in cc;
-            stands = rw done;
-          }
+      acknowledge_written = record {
+        keeps = grind (arith, nat_tests);
+        sized = grind (arith, nat_tests);
+        room = grind (arith, nat_tests);
+        long = grind (arith, nat_tests);
+        stands = rw done;
+      }
 
       -- So the first n bytes of the output read as the receiver's ack.
       pub acknowledge_reads : send.0 < 2 ^ 32 → recv.0 < 2 ^ 32 → ReadsAs r send recv (take n (acknowledge_of r send recv output).output)

@@ -1,85 +1,59 @@
 -- The definitions at each way out of the code. Assumes nothing.
-use Prim.Native.Nat.{ℕ, ◌+◌, ◌-◌, ◌*◌, ◌^◌, ◌≤◌, ◌<◌}
-use mathlib.Core.Path.{◌≡◌, refl, sym, ◌∙◌, ap}
+use Prim.Native.Nat.{ℕ, ◌+◌, ◌-◌, ◌*◌, ◌^◌, ◌≤◌, ◌<◌, min}
+use mathlib.Core.Path.{◌≡◌, refl, sym, ◌∙◌}
 use mathlib.Core.Bool.{Bool, true, false}
 use mathlib.Core.List.{List, [], ◌∷◌}
-use native.Mathlib.Decide.{dec_le}
 use native.Mathlib.Omega.{arith}
-use borrow.Author.Tests.{le-leb, lt-leb, le-ltb}
 use lib.Dec.{ltb}
 use lib.ListN.{length, get_or, take, drop, length-append, get_or-append}
 use lib.Seq.{take_at, take-append-le, length-take-le}
-use Rattle.terms.specs.declared.Refusal.{Refusal}
+use Rattle.std.proofs.lemmas.Bool.Decides.{nat_tests}
 use Rattle.terms.specs.declared.StreamId.{StreamId}
 use Rattle.terms.specs.Ladder.{◌when◌else◌}
 use Rattle.terms.specs.Lists.{◌at_front_of◌}
-use Rattle.terms.specs.Refusals.{number_of}
-use Rattle.terms.proofs.Laws.{case}
-use Rattle.packet_write.specs.Writing.{Written, written, said_writing, packet_length, packet_bytes, write_of, output_after}
+use Rattle.packet_write.specs.Writing.{written, packet_bytes, write_of, output_after}
 use Rattle.packet_write.specs.declared.Fields.{Fields}
-use Rattle.packet_write.specs.declared.Writing.{Writing}
-use Rattle.packet_write.specs.declared.Writing.TheVariants as W
+use Rattle.packet_write.specs.declared.Written.{Written}
 use Rattle.packet_write.proofs.Joins.{length_packet, length_options}
-use Rattle.terms.specs.Answers.{Said, refusal, values, ◌unless_refused◌else◌}
-use Rattle.receiver_state.specs.Rules.{rules_of, slot_fits}
+use Rattle.terms.specs.Answers.{Saying, Said, refusal, values}
+use Rattle.receiver_state.specs.Rules.{rules_of}
 use Rattle.receiver_state.specs.declared.Receiver.{Receiver}
-use Rattle.receiver_ack.specs.Missing.{missing_from}
+use Rattle.receiver_state.proofs.Facts.{ruled}
+use Rattle.receiver_ack.specs.Missing.{missing_from, spanned}
 use Rattle.receiver_ack.specs.Fields.{at_least255, ack_nacks, acked_through, fields_from, nacks_from}
-use Rattle.receiver_ack.specs.Acknowledge.{plain_fields, plain_ack, plain_ack_of, acknowledge_said, acknowledge_of}
+use Rattle.receiver_ack.specs.Acknowledge.{plain_fields, plain_ack}
 use Rattle.receiver_ack.specs.declared.AckFields.{AckFields}
 use Rattle.receiver_ack.proofs.Among.{missing_ascending, climbs}
 
 -- FIELDS
 
-module _ (next highest : ℕ) (marks : List ℕ) (count : ℕ) (is : count ≡ length (missing_from next highest marks)) where
-  -- fewer than 255
-  pub fields_few : count < 255 → record { nacks = count; ack_through = record { 0 = highest }; flags = 0; delay = 0 } ≡ fields_from next highest marks
-  unfolding fields_from
-  fields_few h =
-      let m = missing_from next highest marks in
-      sym (simp (le-leb (length m) 255 (omega arith), lt-leb 255 (length m) (omega arith)) (rw is))
+pub nacks_count : (m : List ℕ) → length (ack_nacks m) ≡ min (length m) 255
+nacks_count m = grind (arith, nat_tests, length-take-le 255 m)
 
-  pub fields_full : count ≡ 255 → record { nacks = count; ack_through = record { 0 = highest }; flags = 64; delay = 60001 } ≡ fields_from next highest marks
-  unfolding fields_from
-  fields_full h =
-      let m = missing_from next highest marks in
-      sym (simp (le-leb (length m) 255 (omega arith), le-leb 255 (length m) (omega arith)) (rw is))
+pub through_few : (m : List ℕ) (highest : ℕ) → length m ≤ 255 → acked_through m highest ≡ highest
+through_few m highest h = grind (arith, nat_tests)
 
-  module _ (before table : List ℕ) (are : table ≡ missing_from next highest marks at_front_of before) (more : 255 < count) where
-    at_255 : get_or table 255 0 ≡ get_or (missing_from next highest marks) 255 0
-    at_255 =
-        let m = missing_from next highest marks in
-        ap (λ (t : List ℕ). get_or t 255 0) are ∙ get_or-append m (drop (length m) before) 0 255 (omega arith)
+-- the 256th stands at index 255, whatever stood behind the missing numbers
+pub through_more : (m before : List ℕ) (highest : ℕ) → 255 < length m → acked_through m highest ≡ get_or (m at_front_of before) 255 0 - 1
+through_more m before highest h = grind (arith, nat_tests, get_or-append m (drop (length m) before) 0 255 h)
 
-    pub some_256th : 1 ≤ get_or table 255 0
-    some_256th = omega (arith, at_255, climbs 255 (missing_from next highest marks) (missing_ascending next highest marks) (omega arith))
-
-    pub fields_more : record { nacks = 255; ack_through = record { 0 = get_or table 255 0 - 1 }; flags = 64; delay = 60001 } ≡ fields_from next highest marks
-    unfolding fields_from
-    fields_more =
-        let m = missing_from next highest marks in
-        sym (simp (lt-leb (length m) 255 (omega arith), le-leb 255 (length m) (omega arith), length-take-le 255 m (omega arith), sym at_255))
+pub some_256th : (next highest : ℕ) (marks before : List ℕ) → 255 < length (missing_from next highest marks) → 1 ≤ get_or (missing_from next highest marks at_front_of before) 255 0
+some_256th next highest marks before h =
+    let m = missing_from next highest marks in
+    rw (get_or-append m (drop (length m) before) 0 255 h) (omega (arith, climbs 255 m (missing_ascending next highest marks) h))
 
 -- at most 255 NACKs, which are the first of the missing numbers
 pub nacks_few : (next highest : ℕ) (marks : List ℕ) → length (nacks_from next highest marks) ≤ 255
 unfolding nacks_from
-nacks_few next highest marks =
-    let m = missing_from next highest marks in
-    case
-    (λ (h : length m ≤ 255). rw (le-leb (length m) 255 h) h)
-    (λ (h : length m ≤ 255 → ⊥). rw (lt-leb (length m) 255 (omega arith), length-take-le 255 m (omega arith)) (omega arith))
-    (dec_le (length m) 255)
+nacks_few next highest marks = rw (nacks_count (missing_from next highest marks)) (omega arith)
 
 -- they stand at the front of a table with the missing numbers at its front
 front : (m before : List ℕ) → (take (length (ack_nacks m)) (m at_front_of before) ≡ ack_nacks m) × (length (ack_nacks m) ≤ length (m at_front_of before))
 front m before =
-    let rest = drop (length m) before in
-    let long = length-append m rest in
-    case
-    (λ (h : length m ≤ 255). rw (le-leb (length m) 255 h) (take_at m rest (length m) refl, omega arith))
-    (λ (h : length m ≤ 255 → ⊥).
-    rw (lt-leb (length m) 255 (omega arith), length-take-le 255 m (omega arith)) (take-append-le 255 m rest (omega arith), omega arith))
-    (dec_le (length m) 255)
+    let rest = drop (length m) before in (
+      grind (arith, nat_tests, length-take-le 255 m, take_at m rest (length m) refl, take-append-le 255 m rest),
+      grind (arith, nat_tests, length-take-le 255 m, length-append m rest),
+    )
 
 pub nacks_front : (next highest : ℕ) (marks before : List ℕ) (acks : AckFields) (table : List ℕ) → acks ≡ fields_from next highest marks
     → table ≡ missing_from next highest marks at_front_of before → (take acks.nacks table ≡ nacks_from next highest marks) × (acks.nacks ≤ length table)
@@ -124,24 +98,17 @@ module _ (through : ℕ) (send recv : StreamId) (number : ℕ) (nacks payload : 
       → write_of (fields_by choked through send recv number) nacks [] [] payload room
       ≡ (refusal 7 when ltb room (length (packet_by choked through send recv number nacks payload)) else written (length (packet_by choked through send recv number nacks payload)) 0)
   unfolding write_of
-  packet_written true room few short =
-      let e : packet_length (fields_by true through send recv number) nacks [] [] payload ≡ 22 + 4 * length nacks + 2 + length payload = omega arith in
-      rw (packet_long true) (simp (le-ltb 255 (length nacks) few, e, le-ltb 65535 (22 + 4 * length nacks + 2 + length payload) (omega arith)))
-  packet_written false room few short =
-      let e : packet_length (fields_by false through send recv number) nacks [] [] payload ≡ 22 + 4 * length nacks + 0 + length payload = omega arith in
-      rw (packet_long false) (simp (le-ltb 255 (length nacks) few, e, le-ltb 65535 (22 + 4 * length nacks + 0 + length payload) (omega arith)))
+  packet_written true room few short = let long = packet_long true in grind (arith, nat_tests)
+  packet_written false room few short = let long = packet_long false in grind (arith, nat_tests)
 
 -- PLAIN
 
-short_told : (t : Bool) (why : Refusal) (n : ℕ) → refusal (number_of why) ≡ (refusal 7 when t else written n 0) → refusal (number_of why) ≡ (refusal 7 when t else values (n ∷ []))
-short_told true why n e = ap refusal (cc)
-short_told false why n e = let z : ◌≡◌ {A = ℕ} 0 1 = cc in absurd (omega arith)
+-- of what the writer says, the answer gives the length alone
+short_told : (t : Bool) (k n : ℕ) → ◌≡◌ {A = Saying Written} (refusal k) (refusal 7 when t else written n 0) → ◌≡◌ {A = Said} (refusal k) (refusal 7 when t else values (n ∷ []))
+short_told t k n e = grind (arith, nat_tests)
 
-length_told : (t : Bool) (m at n : ℕ) → written m at ≡ (refusal 7 when t else written n 0) → values (m ∷ []) ≡ (refusal 7 when t else values (n ∷ []))
-length_told true m at n e = let z : ◌≡◌ {A = ℕ} 0 1 = cc in absurd (omega arith)
-length_told false m at n e =
-    let w : ◌≡◌ {A = Written} (record { length_is = m; signature_begins = at }) (record { length_is = n; signature_begins = 0 }) = cc in
-    ap (λ (x : Written). values (x.length_is ∷ [])) w
+length_told : (t : Bool) (w : Written) (n : ℕ) → values w ≡ (refusal 7 when t else written n 0) → ◌≡◌ {A = Said} (values (w.length ∷ [])) (refusal 7 when t else values (n ∷ []))
+length_told t w n e = grind (arith, nat_tests)
 
 module _ (next highest : ℕ) (marks : List ℕ) (send recv : StreamId) where
   pub ack_most : length (plain_ack next highest marks send recv) ≤ 1044
@@ -151,53 +118,38 @@ module _ (next highest : ℕ) (marks : List ℕ) (send recv : StreamId) where
       packet_most (acked_through m highest) send recv 0 (nacks_from next highest marks) [] (at_least255 m) (nacks_few next highest marks)
 
   -- what the writer answers to a plain ack
-  pub ack_written : (room : ℕ) → write_of (plain_fields (fields_from next highest marks) send recv) (nacks_from next highest marks) [] [] [] room
+  ack_written : (room : ℕ) → write_of (plain_fields (fields_from next highest marks) send recv) (nacks_from next highest marks) [] [] [] room
       ≡ (refusal 7 when ltb room (length (plain_ack next highest marks send recv)) else written (length (plain_ack next highest marks send recv)) 0)
   unfolding plain_ack fields_from
   ack_written room =
       let m = missing_from next highest marks in
       packet_written (acked_through m highest) send recv 0 (nacks_from next highest marks) [] (at_least255 m) room (nacks_few next highest marks) (omega arith)
 
-  module _ (acks : AckFields) (nacks output after : List ℕ) (w : Writing) (e : acks ≡ fields_from next highest marks) (f : nacks ≡ nacks_from next highest marks)
-      (says : said_writing w ≡ write_of (plain_fields acks send recv) nacks [] [] [] (length output))
+  module _ (acks : AckFields) (nacks output after : List ℕ) (e : acks ≡ fields_from next highest marks) (f : nacks ≡ nacks_from next highest marks)
       (leaves : after ≡ output_after (plain_fields acks send recv) nacks [] [] [] output) where
-    told : said_writing w ≡ (refusal 7 when ltb (length output) (length (plain_ack next highest marks send recv)) else written (length (plain_ack next highest marks send recv)) 0)
-    told = says ∙ rw (e, f) (ack_written (length output))
+    told : write_of (plain_fields acks send recv) nacks [] [] [] (length output)
+        ≡ (refusal 7 when ltb (length output) (length (plain_ack next highest marks send recv)) else written (length (plain_ack next highest marks send recv)) 0)
+    told = rw (e, f) (ack_written (length output))
 
-    pub plain_refused : (why : Refusal) → w ≡ W.Refused why
-        → (refusal (number_of why) ≡ (refusal 7 when ltb (length output) (length (plain_ack next highest marks send recv)) else values (length (plain_ack next highest marks send recv) ∷ [])))
+    pub plain_refused : (k : ℕ) → refusal k ≡ write_of (plain_fields acks send recv) nacks [] [] [] (length output)
+        → (◌≡◌ {A = Said} (refusal k) (refusal 7 when ltb (length output) (length (plain_ack next highest marks send recv)) else values (length (plain_ack next highest marks send recv) ∷ [])))
         × (after ≡ output)
-    plain_refused why g =
-        let s = sym (ap said_writing g) ∙ says in (
-          short_told (ltb (length output) (length (plain_ack next highest marks send recv))) why (length (plain_ack next highest marks send recv)) (sym (ap said_writing g) ∙ told),
-          leaves ∙ rw (sym s),
-        )
+    plain_refused k says = (
+      short_told (ltb (length output) (length (plain_ack next highest marks send recv))) k (length (plain_ack next highest marks send recv)) (says ∙ told),
+      leaves ∙ rw (sym says),
+    )
 
-    pub plain_written : (n at : ℕ) → w ≡ W.Written n at
-        → (values (n ∷ []) ≡ (refusal 7 when ltb (length output) (length (plain_ack next highest marks send recv)) else values (length (plain_ack next highest marks send recv) ∷ [])))
+    pub plain_written : (w : Written) → values w ≡ write_of (plain_fields acks send recv) nacks [] [] [] (length output)
+        → (◌≡◌ {A = Said} (values (w.length ∷ [])) (refusal 7 when ltb (length output) (length (plain_ack next highest marks send recv)) else values (length (plain_ack next highest marks send recv) ∷ [])))
         × (after ≡ plain_ack next highest marks send recv at_front_of output)
     unfolding plain_ack
-    plain_written n at g =
-        let s = sym (ap said_writing g) ∙ says in (
-          length_told (ltb (length output) (length (plain_ack next highest marks send recv))) n at (length (plain_ack next highest marks send recv)) (sym (ap said_writing g) ∙ told),
-          leaves ∙ rw (sym s, e, f),
-        )
+    plain_written w says = (
+      length_told (ltb (length output) (length (plain_ack next highest marks send recv))) w (length (plain_ack next highest marks send recv)) (says ∙ told),
+      leaves ∙ rw (sym says, e, f),
+    )
 
 -- ACKNOWLEDGE
 
-module _ (r : Receiver) (send recv : StreamId) (output : List ℕ) where
-  pub ack_broken : rules_of r ≡ false → record { says = refusal 11; output = output } ≡ acknowledge_of r send recv output
-  unfolding acknowledge_of acknowledge_said
-  ack_broken e = sym (simp e)
-
-  module _ (keeps : rules_of r ≡ true) where
-    pub ack_unfit : slot_fits r.head.slot ≡ false → record { says = refusal 10; output = output } ≡ acknowledge_of r send recv output
-    unfolding acknowledge_of acknowledge_said
-    ack_unfit e = sym (simp (keeps, e))
-
-    pub ack_plain : slot_fits r.head.slot ≡ true → (answer : Said) (after : List ℕ)
-        → answer ≡ (refusal 7 when ltb (length output) (length (plain_ack_of r send recv)) else values (length (plain_ack_of r send recv) ∷ []))
-        → after ≡ (plain_ack_of r send recv at_front_of output unless_refused answer else output)
-        → record { says = answer; output = after } ≡ acknowledge_of r send recv output
-    unfolding acknowledge_of acknowledge_said
-    ack_plain fits answer after e f = sym (simp (keeps, fits) (rw (f, e)))
+-- the rules bound the numbers; the first part shows the receiver, so that `grind` finds it
+pub bounded : (r : Receiver) → rules_of r ≡ true → (rules_of r ≡ true) × spanned r
+bounded r keeps = let f = ruled r keeps in (keeps, (f.far, f.last))

@@ -1,23 +1,16 @@
 -- What acknowledge does, whatever it is given: its answer, and every byte of the output.
-use Rattle.std.specs.Prelude.{ℕ, not, List, [], ◌∷◌, ltb, length}
+use Rattle.std.specs.Prelude.{ℕ, not, List, [], ◌∷◌, ltb, length, Result}
 use Rattle.terms.specs.declared.StreamId.{StreamId}
 use Rattle.terms.specs.Ladder.{◌when◌else◌}
 use Rattle.terms.specs.Lists.{◌at_front_of◌}
-use Rattle.terms.specs.Refusals.{number_of}
+use Rattle.terms.specs.declared.Refusal.{Refusal}
 use Rattle.packet_write.specs.Writing.{packet_bytes}
 use Rattle.packet_write.specs.declared.Fields.{Fields}
-use Rattle.terms.specs.Answers.{Said, refusal, values, ◌unless_refused◌else◌}
+use Rattle.terms.specs.Answers.{Said, refusal, values, ◌unless_refused◌else◌, said_of}
 use Rattle.receiver_state.specs.Rules.{rules_of, slot_fits}
 use Rattle.receiver_state.specs.declared.Receiver.{Receiver}
 use Rattle.receiver_ack.specs.Fields.{fields_from, nacks_from}
 use Rattle.receiver_ack.specs.declared.AckFields.{AckFields}
-use Rattle.receiver_ack.specs.declared.Acknowledged.{Acknowledged}
-use Rattle.receiver_ack.specs.declared.Acknowledged.TheVariants as A
-
--- what an answer says in document 01's terms: the refusal's number, or the packet's length
-abbrev pub said_ack : Acknowledged → Said
-said_ack (A.Written length) = values (length ∷ [])
-said_ack (A.Refused why) = refusal (number_of why)
 
 -- a packet with a receiver's ack fields: both stream ids as given with the call, in wire order, the packet's number, resend delay 0
 abbrev pub acked_fields : AckFields → StreamId → StreamId → ℕ → Fields
@@ -69,6 +62,6 @@ module _ (r : Receiver) (send recv : StreamId) where
         output = plain_ack_of at_front_of output unless_refused answer else output;
       }
 
--- a result of the code, as an outcome
-abbrev pub acknowledged : Acknowledged → List ℕ → Acknowledges
-acknowledged a output = record { says = said_ack a; output = output }
+-- a result of the code, as an outcome: the answer is the packet's length
+abbrev pub acknowledged : Result ℕ Refusal → List ℕ → Acknowledges
+acknowledged answer output = record { says = said_of answer; output = output }

@@ -1,5 +1,5 @@
 -- The missing numbers of a receiver, ascending: document 01, "Missing: numbers from next to highest not held".
-use Rattle.std.specs.Prelude.{ℕ, zero, suc, ◌+◌, ◌-◌, Bool, true, false, ◌&&◌, ◌||◌, List, [], ◌∷◌, ltb, eqb}
+use Rattle.std.specs.Prelude.{ℕ, zero, suc, ◌+◌, ◌-◌, ◌≤◌, Bool, true, false, ◌&&◌, ◌||◌, List, [], ◌∷◌, ltb, eqb}
 use Rattle.terms.specs.Ladder.{◌when◌else◌}
 use Rattle.terms.specs.Lists.{all}
 use Rattle.receiver_state.specs.Slots.{is_free, mark_of}
@@ -31,6 +31,11 @@ missing_from next highest marks = those (not_held marks) (next up_to highest)
 
 abbrev pub missing_of : Receiver → List ℕ
 missing_of r = missing_from r.head.next.0 r.head.highest.0 r.marks
+
+-- the numbers from next to highest are at most 512, and none of them is the last number: what the code asks of a state, and every state that
+-- keeps the rules has
+abbrev pub spanned : Receiver → Type 0
+spanned r = (r.head.highest.0 ≤ r.head.next.0 + 511) × (r.head.highest.0 ≤ 4294967294)
 
 -- What the theorems say of such a list.
 

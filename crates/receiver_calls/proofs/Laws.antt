@@ -1,21 +1,22 @@
 -- Start, accept and take told by the standing of each number: what a run of calls is reasoned with, in place of the definitions' text.
 -- Assumes nothing.
-use Prim.Native.Nat.{ℕ, ◌+◌, ◌-◌, ◌*◌, ◌%◌, ◌≤◌, ◌<◌, max}
-use mathlib.Core.Path.{◌≡◌, refl, sym, ◌∙◌, ap, subst}
-use mathlib.Core.Bool.{Bool, true, false, ◌&&◌, not}
+use Prim.Native.Nat.{ℕ, ◌+◌, ◌*◌, ◌%◌, ◌≤◌, ◌<◌, max}
+use mathlib.Core.Path.{◌≡◌, refl, ◌∙◌, ap}
+use mathlib.Core.Bool.{true, false, ◌&&◌, not}
 use mathlib.Core.List.{List, [], ◌∷◌}
 use mathlib.Core.Logic.{◌⊎◌, inl, inr}
 use native.Mathlib.Decide.{ℕ_discrete, dec_le, dec_lt}
 use native.Mathlib.Omega.{arith}
-use borrow.Author.Tests.{lt-ltb, le-ltb, le-leb, lt-leb, leb-true, eq-eqb, ne_eqb, eqb-true, eqb-false, not-false}
+use borrow.Author.Tests.{le-leb, lt-leb, eqb-false, not-false}
 use lib.Dec.{leb, ltb, eqb}
-use lib.ListN.{length, set, length-set, length-take, length-drop, get_or-replicate}
+use lib.ListN.{length, length-set, length-take, length-drop, get_or-replicate}
+use Rattle.std.proofs.lemmas.Bool.Decides.{nat_tests}
 use Rattle.terms.specs.declared.SeqNo.{SeqNo}
 use Rattle.terms.specs.Ladder.{◌when◌else◌}
 use Rattle.terms.specs.Lists.{◌at_front_of◌}
-use Rattle.terms.proofs.Laws.{case, and_left, and_right, past}
+use Rattle.terms.proofs.Laws.{case, and_left, past}
 use Rattle.terms.specs.Answers.{Said, refusal, values}
-use Rattle.receiver_state.specs.Slots.{is_free, is_held, length_of, mark_of, offset_of, filled, held_bytes}
+use Rattle.receiver_state.specs.Slots.{length_of, mark_of, offset_of, filled, held_bytes}
 use Rattle.receiver_state.specs.Rules.{rules_of, slot_fits, sizes_fit}
 use Rattle.receiver_state.specs.Start.{start_said, start_of, fresh, unusable}
 use Rattle.receiver_calls.specs.Accept.{accept_said, entering, accept_of}
@@ -52,53 +53,20 @@ held_length r store sound n =
 -- where a number lies, from its standing
 module _ (r : Receiver) (store : List ℕ) (n : ℕ) where
   pub taken_below : standing r store n ≡ taken → n < r.head.next.0
-  taken_below e =
-      where_is r n (λ a. a)
-      (λ a b. let s = is_unseen r store n a b in let z : ◌≡◌ {A = ℕ} 0 1 = cc in absurd (omega arith))
-      (λ a b f. let s = is_missing_lem r store n a b f in let z : ◌≡◌ {A = ℕ} 0 1 = cc in absurd (omega arith))
-      (λ a b f. let s = is_held_lem r store n a b f in let z : ◌≡◌ {A = ℕ} 0 1 = cc in absurd (omega arith))
-
-  pub unseen_above : standing r store n ≡ unseen → r.head.highest.0 < n
-  unseen_above e =
-      where_is r n
-      (λ a. let s = is_taken r store n a in let z : ◌≡◌ {A = ℕ} 0 1 = cc in absurd (omega arith))
-      (λ a b. b)
-      (λ a b f. let s = is_missing_lem r store n a b f in let z : ◌≡◌ {A = ℕ} 0 1 = cc in absurd (omega arith))
-      (λ a b f. let s = is_held_lem r store n a b f in let z : ◌≡◌ {A = ℕ} 0 1 = cc in absurd (omega arith))
+  unfolding standing
+  taken_below e = grind (arith, nat_tests)
 
   pub above_unseen : Sound r store → r.head.highest.0 < n → standing r store n ≡ unseen
   above_unseen sound b = is_unseen r store n (omega (arith, (facts r store sound).low)) b
 
   -- missing, with no store to look at
   pub missing_told : is_missing r n ≡ true → standing r store n ≡ missing
-  missing_told t =
-      let inner = and_right (leb r.head.next.0 n) (leb n r.head.highest.0 && is_free (mark_of r.marks n)) t in
-      is_missing_lem r store n
-      (leb-true r.head.next.0 n (and_left (leb r.head.next.0 n) (leb n r.head.highest.0 && is_free (mark_of r.marks n)) t))
-      (leb-true n r.head.highest.0 (and_left (leb n r.head.highest.0) (is_free (mark_of r.marks n)) inner))
-      (eqb-true (mark_of r.marks n) 0 (and_right (leb n r.head.highest.0) (is_free (mark_of r.marks n)) inner))
+  unfolding standing
+  missing_told t = grind (arith, nat_tests)
 
   pub told_missing : standing r store n ≡ missing → is_missing r n ≡ true
-  told_missing e =
-      where_is r n
-      (λ a. let s = is_taken r store n a in let z : ◌≡◌ {A = ℕ} 0 1 = cc in absurd (omega arith))
-      (λ a b. let s = is_unseen r store n a b in let z : ◌≡◌ {A = ℕ} 0 1 = cc in absurd (omega arith))
-      (λ a b f. simp (le-leb r.head.next.0 n a, le-leb n r.head.highest.0 b, eq-eqb (mark_of r.marks n) 0 f))
-      (λ a b f. let s = is_held_lem r store n a b f in let z : ◌≡◌ {A = ℕ} 0 1 = cc in absurd (omega arith))
-
--- neither the rules nor the sizes were at fault
-Fair : Said → Type 0
-Fair (refusal n) = (n ≡ 11 → ⊥) × (n ≡ 10 → ⊥)
-Fair (values given) = Unit {0}
-
-rung : (n : ℕ) (test : Bool) (rest : Said) → (n ≡ 11 → ⊥) → (n ≡ 10 → ⊥) → Fair rest → Fair (refusal n when test else rest)
-unfolding Fair
-rung n true rest a b f = (a, b)
-rung n false rest a b f = f
-
-fair : (answer : Said) → Fair answer → (n : ℕ) → answer ≡ refusal n → (n ≡ 11 → ⊥) × (n ≡ 10 → ⊥)
-unfolding Fair
-fair answer f n e = rw e at f
+  unfolding standing
+  told_missing e = grind (arith, nat_tests)
 
 -- a state that breaks the rules is refused with 11, and sizes that do not fit with 10, whatever else is given
 module _ (r : Receiver) where
@@ -225,36 +193,14 @@ module _ (r : Receiver) (number : SeqNo) (payload store : List ℕ) where
 
       now_there : (m : ℕ) → (m ≡ number.0 → ⊥)
           → standing here (filled store r.head.slot number.0 payload) m ≡ (missing when ltb r.head.highest.0 m && ltb m number.0 else standing r store m)
-      unfolding entering
+      unfolding entering standing
       now_there m other =
           let p = ok in
           let f = facts r store sound in
-          let after = filled store r.head.slot number.0 payload in
-          where_is r m
-          (λ a. is_taken here after m a ∙ sym (rw (le-ltb r.head.highest.0 m (omega (arith, f.low))) (is_taken r store m a)))
-          (λ a b.
-          case
-          (λ (q : m < number.0).
-          let o = apart r.head.next.0 m number.0 a (omega arith) p.new p.near other in
-          let z : mark_of r.marks m ≡ 0 = f.free (m % 512) (omega (arith, sound.table)) (omega (arith, number_is r.head.next.0 m a (omega arith))) in
-          is_missing_lem here after m a (omega arith) (mark_other r.marks sound.table number.0 (length payload + 1) m o ∙ z)
-          ∙ sym (rw (lt-ltb r.head.highest.0 m b, lt-ltb m number.0 q)))
-          (λ (q : m < number.0 → ⊥).
-          is_unseen here after m a (omega (arith, other)) ∙ sym (rw (lt-ltb r.head.highest.0 m b, le-ltb m number.0 (omega arith)) (is_unseen r store m a b)))
-          (dec_lt m number.0))
-          (λ a b z.
-          let o = apart r.head.next.0 m number.0 a (omega (arith, f.far)) p.new p.near other in
-          is_missing_lem here after m a (omega arith) (mark_other r.marks sound.table number.0 (length payload + 1) m o ∙ z)
-          ∙ sym (rw (le-ltb r.head.highest.0 m b) (is_missing_lem r store m a b z)))
-          (λ a b z.
-          let o = apart r.head.next.0 m number.0 a (omega (arith, f.far)) p.new p.near other in
-          let k = mark_other r.marks sound.table number.0 (length payload + 1) m o in
-          let same : held_bytes (set r.marks (number.0 % 512) (length payload + 1)) r.head.slot after m ≡ held_bytes r.marks r.head.slot store m =
-          rw k
-          (filled_other store r.head.slot number.0 payload inside m (length_of (mark_of r.marks m))
-          (held_short r sound.table f m) p.fits o) in
-          is_held_lem here after m a (omega arith) (λ e. z (sym k ∙ e)) ∙ ap held same
-          ∙ sym (rw (le-ltb r.head.highest.0 m b) (is_held_lem r store m a b z)))
+          let number_apart = apart r.head.next.0 m number.0 in
+          let elsewhere = mark_other r.marks sound.table number.0 (length payload + 1) m in
+          let bytes = filled_other store r.head.slot number.0 payload inside m (length_of (mark_of r.marks m)) (held_short r sound.table f m) p.fits in
+          grind (arith, nat_tests, p.new, p.near, f.low, f.far, f.free (m % 512), sound.table, number_is r.head.next.0 m, number_apart, elsewhere, bytes, other)
 
       pub accept_changes : Entered r number payload store
       unfolding entering
@@ -294,36 +240,17 @@ module _ (r : Receiver) (number : SeqNo) (payload store : List ℕ) where
   -- its answer: 12, or by the standing of the number, so never 11 or 10
   pub accept_answer : Sound r store
       → (accept_of r number payload store).says ≡ (refusal 12 when eqb number.0 4294967295 else accept_by (standing r store number.0) r number.0 (length payload))
-  unfolding accept_said
+  unfolding accept_of accept_said standing
   accept_answer sound =
       let f = facts r store sound in
-      sym accept_is ∙ rw (sound.keeps, sound.fits)
-      (ap (λ (rest : Said). refusal 12 when eqb number.0 4294967295 else rest)
-      (where_is r number.0
-      (λ a. rw (lt-ltb _ _ a, is_taken r store number.0 a))
-      (λ a b.
-      case
-      (λ (q : 512 ≤ number.0 - r.head.next.0). rw (le-ltb _ _ a, is_unseen r store number.0 a b, le-leb 512 (number.0 - r.head.next.0) q))
-      (λ (q : 512 ≤ number.0 - r.head.next.0 → ⊥).
-      let z : mark_of r.marks number.0 ≡ 0 =
-      f.free (number.0 % 512) (omega (arith, sound.table)) (omega (arith, number_is r.head.next.0 number.0 a (omega arith))) in
-      rw (le-ltb _ _ a, is_unseen r store number.0 a b, lt-leb 512 (number.0 - r.head.next.0) (omega arith), eq-eqb _ _ z))
-      (dec_le 512 (number.0 - r.head.next.0)))
-      (λ a b z. rw (le-ltb _ _ a, is_missing_lem r store number.0 a b z, lt-leb 512 (number.0 - r.head.next.0) (omega (arith, f.far)), eq-eqb _ _ z))
-      (λ a b z. rw (le-ltb _ _ a, is_held_lem r store number.0 a b z, lt-leb 512 (number.0 - r.head.next.0) (omega (arith, f.far)), ne_eqb _ _ z))))
+      let a = sound.keeps in
+      let b = sound.fits in
+      grind (arith, nat_tests, f.far, f.free (number.0 % 512), sound.table, number_is r.head.next.0 number.0)
 
   -- none of its refusals is then 11 or 10
   pub accept_fair : Sound r store → (n : ℕ) → (accept_of r number payload store).says ≡ refusal n → (n ≡ 11 → ⊥) × (n ≡ 10 → ⊥)
-  unfolding accept_said Fair
-  accept_fair sound =
-      fair (accept_of r number payload store).says
-      (subst Fair (accept_is)
-      (rw (sound.keeps, sound.fits)
-      (rung 12 (eqb number.0 4294967295) _ (λ e. omega arith) (λ e. omega arith)
-      (rung 13 (ltb number.0 r.head.next.0) _ (λ e. omega arith) (λ e. omega arith)
-      (rung 14 (leb 512 (number.0 - r.head.next.0)) _ (λ e. omega arith) (λ e. omega arith)
-      (rung 15 (is_held (mark_of r.marks number.0)) _ (λ e. omega arith) (λ e. omega arith)
-      (rung 16 (ltb r.head.slot (length payload)) (values []) (λ e. omega arith) (λ e. omega arith) tt)))))))
+  unfolding accept_of accept_said
+  accept_fair sound n e = let a = sound.keeps in let b = sound.fits in (grind (arith, nat_tests), grind (arith, nat_tests))
 
 -- TAKE
 
@@ -361,25 +288,13 @@ module _ (r : Receiver) (store output : List ℕ) where
       gave = gives r (length store) (length output) given sound.table (take_is ∙ done)
 
       left_there : (m : ℕ) → standing (passing r) store m ≡ (taken when eqb m r.head.next.0 else standing r store m)
-      unfolding passing
+      unfolding passing standing
       left_there m =
           let g = gave in
           let f = facts r store sound in
-          case
-          (λ (e : m ≡ r.head.next.0). rw (eq-eqb m r.head.next.0 e) (is_taken (passing r) store m (omega arith)))
-          (λ (n : m ≡ r.head.next.0 → ⊥).
-          rw (ne_eqb m r.head.next.0 n)
-          (where_is r m
-          (λ a. is_taken (passing r) store m (omega arith) ∙ sym (is_taken r store m a))
-          (λ a b. is_unseen (passing r) store m (omega (arith, n)) b ∙ sym (is_unseen r store m a b))
-          (λ a b z.
-          let k = mark_other r.marks sound.table r.head.next.0 0 m (apart r.head.next.0 m r.head.next.0 a (omega (arith, f.far)) (omega arith) (omega arith) n) in
-          is_missing_lem (passing r) store m (omega (arith, n)) b (k ∙ z) ∙ sym (is_missing_lem r store m a b z))
-          (λ a b z.
-          let k = mark_other r.marks sound.table r.head.next.0 0 m (apart r.head.next.0 m r.head.next.0 a (omega (arith, f.far)) (omega arith) (omega arith) n) in
-          let same : held_bytes (set r.marks (r.head.next.0 % 512) 0) r.head.slot store m ≡ held_bytes r.marks r.head.slot store m = rw k in
-          is_held_lem (passing r) store m (omega (arith, n)) b (λ e. z (sym k ∙ e)) ∙ ap held same ∙ sym (is_held_lem r store m a b z))))
-          (ℕ_discrete m r.head.next.0)
+          let number_apart = apart r.head.next.0 m r.head.next.0 in
+          let elsewhere = mark_other r.marks sound.table r.head.next.0 0 m in
+          grind (arith, nat_tests, f.far, g.below, number_apart, elsewhere)
 
       pub take_changes : Took r store output given
       unfolding passing
@@ -415,27 +330,17 @@ module _ (r : Receiver) (store output : List ℕ) where
 
   -- its answer: by the standing of the next number, so never 11 or 10
   pub take_answer : Sound r store → (take_of r store output).says ≡ take_by (standing r store r.head.next.0) (length output)
-  unfolding take_said
+  unfolding take_of take_said standing
   take_answer sound =
       let f = facts r store sound in
-      let next = r.head.next.0 in
-      sym take_is ∙ rw (sound.keeps, sound.fits)
-      (where_is r next
-      (λ a. absurd (omega arith))
-      (λ a b.
-      let z : mark_of r.marks next ≡ 0 = f.free (next % 512) (omega (arith, sound.table)) (omega (arith, number_is next next a (omega arith))) in
-      rw (is_unseen r store next a b, eq-eqb _ _ z))
-      (λ a b z. rw (is_missing_lem r store next a b z, eq-eqb _ _ z))
-      (λ a b z. rw (is_held_lem r store next a b z, ne_eqb _ _ z, held_length r store sound next)))
+      let a = sound.keeps in
+      let b = sound.fits in
+      let l = held_length r store sound r.head.next.0 in
+      grind (arith, nat_tests, f.free (r.head.next.0 % 512), sound.table, number_is r.head.next.0 r.head.next.0, l)
 
   pub take_fair : Sound r store → (n : ℕ) → (take_of r store output).says ≡ refusal n → (n ≡ 11 → ⊥) × (n ≡ 10 → ⊥)
-  unfolding take_said Fair
-  take_fair sound =
-      fair (take_of r store output).says
-      (subst Fair (take_is)
-      (rw (sound.keeps, sound.fits)
-      (rung 17 (is_free (mark_of r.marks r.head.next.0)) _ (λ e. omega arith) (λ e. omega arith)
-      (rung 7 (ltb (length output) (length_of (mark_of r.marks r.head.next.0))) _ (λ e. omega arith) (λ e. omega arith) tt))))
+  unfolding take_of take_said
+  take_fair sound n e = let a = sound.keeps in let b = sound.fits in (grind (arith, nat_tests), grind (arith, nat_tests))
 
 -- WHAT RUNS ARE COUNTED BY
 

@@ -1,15 +1,15 @@
 -- What accept does, whatever it is given: its answer, and what it leaves of the state and of the store.
-use Rattle.std.specs.Prelude.{ℕ, ◌+◌, ◌-◌, ◌%◌, max, not, List, [], leb, ltb, eqb, length, set}
+use Rattle.std.specs.Prelude.{ℕ, ◌+◌, ◌-◌, ◌%◌, max, not, List, [], leb, ltb, eqb, length, set, Result}
+use Rattle.terms.specs.declared.Refusal.{Refusal}
 use Rattle.terms.specs.declared.SeqNo.{SeqNo}
 use Rattle.terms.specs.Ladder.{◌when◌else◌}
 use Rattle.terms.specs.Answers.{Said, refusal, values, ◌unless_refused◌else◌, said}
-use Rattle.receiver_state.specs.Answers.{◌over◌, Outcome}
+use Rattle.receiver_state.specs.Answers.{Outcome}
 use Rattle.receiver_state.specs.Slots.{is_held, mark_of, filled}
 use Rattle.receiver_state.specs.Rules.{rules_of, sizes_fit}
 use Rattle.receiver_state.specs.declared.Head.{Head}
 use Rattle.receiver_state.specs.declared.Receiver.{Receiver}
 use Rattle.receiver_calls.specs.declared.Accepted.{Accepted}
-use Rattle.receiver_calls.specs.declared.AcceptedIn.{AcceptedIn}
 
 -- the answer, by document 01's numbers in its order
 unfoldable pub accept_said : Receiver → SeqNo → ℕ → ℕ → Said
@@ -36,7 +36,7 @@ holding h number = record { slot = h.slot; start = h.start; next = h.next; highe
 
 -- and the number's slot is held with a payload of this size
 unfoldable pub entering : Receiver → SeqNo → ℕ → Receiver
-entering r number size = holding r.head number over set r.marks (number.0 % 512) (size + 1)
+entering r number size = record { head = holding r.head number; marks = set r.marks (number.0 % 512) (size + 1) }
 
 -- the whole outcome; where it is done, the payload stands at the slot's front
 unfoldable pub accept_of : Receiver → SeqNo → List ℕ → List ℕ → Outcome
@@ -48,9 +48,9 @@ accept_of r number payload store =
       lent = filled store r.head.slot number.0 payload unless_refused answer else store;
     }
 
--- results of the code, as an outcome: by value, and over a table that is lent
+-- results of the code, as an outcome: by value, and in place, where the state is the one that lies behind the reference at exit
 abbrev pub accepted : Accepted → List ℕ → Outcome
 accepted a store = record { says = said a.answer; state = a.state; lent = store }
 
-abbrev pub accepted_over : AcceptedIn → List ℕ → List ℕ → Outcome
-accepted_over a marks store = record { says = said a.answer; state = a.head over marks; lent = store }
+abbrev pub accepted_behind : Result (Unit {0}) Refusal → Receiver → List ℕ → Outcome
+accepted_behind answer state store = record { says = said answer; state = state; lent = store }

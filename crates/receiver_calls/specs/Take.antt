@@ -1,15 +1,15 @@
 -- What take does, whatever it is given: its answer, and what it leaves of the state and of the output.
-use Rattle.std.specs.Prelude.{ℕ, ◌+◌, ◌%◌, not, List, [], ◌∷◌, ltb, length, set}
+use Rattle.std.specs.Prelude.{ℕ, ◌+◌, ◌%◌, not, List, [], ◌∷◌, ltb, length, set, Result}
+use Rattle.terms.specs.declared.Refusal.{Refusal}
 use Rattle.terms.specs.Ladder.{◌when◌else◌}
 use Rattle.terms.specs.Lists.{◌at_front_of◌}
 use Rattle.terms.specs.Answers.{Said, refusal, values, ◌unless_refused◌else◌, said_of}
-use Rattle.receiver_state.specs.Answers.{◌over◌, Outcome}
+use Rattle.receiver_state.specs.Answers.{Outcome}
 use Rattle.receiver_state.specs.Slots.{is_free, length_of, mark_of, held_bytes}
 use Rattle.receiver_state.specs.Rules.{rules_of, sizes_fit}
 use Rattle.receiver_state.specs.declared.Head.{Head}
 use Rattle.receiver_state.specs.declared.Receiver.{Receiver}
 use Rattle.receiver_calls.specs.declared.Taken.{Taken}
-use Rattle.receiver_calls.specs.declared.TakenIn.{TakenIn}
 
 -- the mark of the next number to take
 abbrev pub next_mark : Receiver → ℕ
@@ -34,7 +34,7 @@ releasing h = record { slot = h.slot; start = h.start; next = record { 0 = h.nex
 
 -- and its slot is freed
 unfoldable pub passing : Receiver → Receiver
-passing r = releasing r.head over set r.marks (r.head.next.0 % 512) 0
+passing r = record { head = releasing r.head; marks = set r.marks (r.head.next.0 % 512) 0 }
 
 -- the bytes of the next number
 abbrev pub next_bytes : Receiver → List ℕ → List ℕ
@@ -50,9 +50,9 @@ take_of r store output =
       lent = next_bytes r store at_front_of output unless_refused answer else output;
     }
 
--- results of the code, as an outcome: by value, and over a table that is lent
+-- results of the code, as an outcome: by value, and in place, where the state is the one that lies behind the reference at exit
 abbrev pub took : Taken → List ℕ → Outcome
 took t output = record { says = said_of t.answer; state = t.state; lent = output }
 
-abbrev pub took_over : TakenIn → List ℕ → List ℕ → Outcome
-took_over t marks output = record { says = said_of t.answer; state = t.head over marks; lent = output }
+abbrev pub took_behind : Result ℕ Refusal → Receiver → List ℕ → Outcome
+took_behind answer state output = record { says = said_of answer; state = state; lent = output }

@@ -2,117 +2,82 @@
 // Ports `InboundContext`.
 #![tactic(auto)]
 
-ghost use Rattle.std.specs.Prelude.{◌≡◌, ◌<◌, max, length};
+ghost use Rattle.std.specs.Prelude.{◌≡◌};
 ghost use Rattle.terms.specs.Answers.{said, said_of};
-ghost use Rattle.receiver_state.specs.Answers.{◌over◌};
-ghost use Rattle.receiver_calls.specs.Accept.{accept_said, holding, accept_of, accepted, accepted_over};
-ghost use Rattle.receiver_calls.specs.Take.{take_said, releasing, take_of, took, took_over};
+ghost use Rattle.receiver_calls.specs.Accept.{accept_said, accept_of, accepted, accepted_behind};
+ghost use Rattle.receiver_calls.specs.Take.{take_said, take_of, took, took_behind};
 
-use receiver_state::{Head, Receiver};
-use terms::{Answer, Given, Refusal, SeqNo};
+use receiver_state::Receiver;
+use terms::{Refusal, SeqNo};
 
 // The answer of each call stands beside the state after it, which a refusal leaves as it was.
 #[derive(Clone, Copy)]
 pub struct Accepted {
-    pub answer: Answer,
+    pub answer: Result<(), Refusal>,
     pub state: Receiver,
 }
 
 #[derive(Clone, Copy)]
 pub struct Taken {
-    pub answer: Given,
+    pub answer: Result<usize, Refusal>,
     pub state: Receiver,
 }
 
 // What accept answers: the first refusal that applies, in document 01's order, or that it is done.
-fn judge_accept(h: Head, marks: &[u16], number: SeqNo, size: usize, store_length: usize) -> Answer
-    requires { length marks.now ≡ 512 }
-    ensures { said result ≡ accept_said (h over marks.now) number size store_length }
+#[tactic(auto, unfolding(crate::specs::Accept::accept_said))]
+fn judge_accept(
+    r: &Receiver,
+    number: SeqNo,
+    size: usize,
+    store_length: usize,
+) -> Result<(), Refusal>
+    ensures { said result ≡ accept_said r.now number size store_length }
 {
     let n = number.0;
-    let next = h.next.0;
-    let slot = h.slot;
-    if !receiver_state::rules_hold(h, marks) {
-        return Answer::Refused(Refusal::StateBroken);
+    let next = r.head.next.0;
+    let slot = r.head.slot;
+    if !receiver_state::rules_hold(r) {
+        return Err(Refusal::StateBroken);
     }
     if !receiver_state::sizes_fit(slot, store_length) {
-        return Answer::Refused(Refusal::SizeWrong);
+        return Err(Refusal::SizeWrong);
     }
     if n == 4294967295 {
-        return Answer::Refused(Refusal::LastNumber);
+        return Err(Refusal::LastNumber);
     }
     if n < next {
-        return Answer::Refused(Refusal::BelowNext);
+        return Err(Refusal::BelowNext);
     }
     if n - next >= 512 {
-        return Answer::Refused(Refusal::BeyondSpan);
+        return Err(Refusal::BeyondSpan);
     }
     let place = (n % 512) as usize;
-    if marks[place] != 0 {
-        return Answer::Refused(Refusal::AlreadyHeld);
+    if r.marks[place] != 0 {
+        return Err(Refusal::AlreadyHeld);
     }
     if size > slot as usize {
-        return Answer::Refused(Refusal::PayloadLong);
+        return Err(Refusal::PayloadLong);
     }
-    Answer::Done
+    Ok(())
 }
 
-// The larger of two numbers.
-fn larger(a: SeqNo, b: SeqNo) -> SeqNo
-    ensures { result ≡ record { 0 = max a.0 b.0 } }
-{
-    if b.0 > a.0 { b } else { a }
-}
-
-// The state's head once the number is held: highest never falls.
-fn hold(h: Head, number: SeqNo) -> Head
-    ensures { result ≡ holding h number }
-{
-    let top = larger(h.highest, number);
-    let mut after = h;
-    after.highest = top;
-    after
-}
-
-// What accept leaves beside the table and the store.
-#[derive(Clone, Copy)]
-pub struct AcceptedIn {
-    pub answer: Answer,
-    pub head: Head,
-}
-
-// accept, over the state's head and its table lent: the one body behind the call by value and the one in place.
+// accept on a state that is lent: the one body behind the call by value and the one in place.
+#[tactic(auto, using(crate::proofs::Outcomes::room_for), unfolding(crate::specs::Accept::accept_of, crate::specs::Accept::entering))]
 pub fn accept_in(
-    h: Head,
-    marks: &mut [u16; 512],
+    r: &mut Receiver,
     number: SeqNo,
     payload: &[u8],
     store: &mut [u8],
-) -> AcceptedIn
-    requires { length marks.old ≡ 512 }
-    ensures { accepted_over result marks.new store.new
-        ≡ accept_of (h over marks.old) number payload.now store.old }
+) -> Result<(), Refusal>
+    ensures { accepted_behind result r.new store.new ≡ accept_of r.old number payload.now store.old }
 {
-    let answer = judge_accept(h, &*marks, number, payload.len(), store.len());
-    match answer {
-        Answer::Refused(_) => AcceptedIn {
-            answer: answer,
-            head: h,
-        },
-        Answer::Done => {
-            let n = number.0;
-            let slot = h.slot;
-            let at = (n % 512) as usize;
-            let from = at * (slot as usize);
-            wire::put_bytes(&mut store[from..], payload);
-            marks[at] = (payload.len() + 1) as u16;
-            let after = hold(h, number);
-            AcceptedIn {
-                answer: answer,
-                head: after,
-            }
-        }
-    }
+    judge_accept(r, number, payload.len(), store.len())?;
+    let at = (number.0 % 512) as usize;
+    let from = at * r.head.slot as usize;
+    wire::put_bytes(&mut store[from..], payload);
+    r.marks[at] = (payload.len() + 1) as u16;
+    r.head.highest = r.head.highest.max(number);
+    Ok(())
 }
 
 // Accepts a packet's payload under its number. Ports `InboundContext::handle_packet`, mended: an empty payload is held like any
@@ -120,102 +85,54 @@ pub fn accept_in(
 pub fn accept(r: Receiver, number: SeqNo, payload: &[u8], store: &mut [u8]) -> Accepted
     ensures { accepted result store.new ≡ accept_of r number payload.now store.old }
 {
-    let mut s = r;
-    let h = s.head;
-    let done = accept_in(h, &mut s.marks, number, payload, store);
-    let after = done.head;
-    s.head = after;
-    let answer = done.answer;
-    Accepted {
-        answer: answer,
-        state: s,
-    }
+    let mut state = r;
+    let answer = accept_in(&mut state, number, payload, store);
+    Accepted { answer, state }
 }
 
 // What take answers: the first refusal that applies, in document 01's order, or how many bytes it copies.
-fn judge_take(h: Head, marks: &[u16], store_length: usize, room: usize) -> Given
-    requires { length marks.now ≡ 512 }
-    ensures { said_of result ≡ take_said (h over marks.now) store_length room }
+#[tactic(auto, unfolding(crate::specs::Take::take_said))]
+fn judge_take(r: &Receiver, store_length: usize, room: usize) -> Result<usize, Refusal>
+    ensures { said_of result ≡ take_said r.now store_length room }
 {
-    let next = h.next.0;
-    let slot = h.slot;
-    if !receiver_state::rules_hold(h, marks) {
-        return Given::Refused(Refusal::StateBroken);
+    if !receiver_state::rules_hold(r) {
+        return Err(Refusal::StateBroken);
     }
-    if !receiver_state::sizes_fit(slot, store_length) {
-        return Given::Refused(Refusal::SizeWrong);
+    if !receiver_state::sizes_fit(r.head.slot, store_length) {
+        return Err(Refusal::SizeWrong);
     }
-    let place = (next % 512) as usize;
-    let mark = marks[place];
+    let place = (r.head.next.0 % 512) as usize;
+    let mark = r.marks[place];
     if mark == 0 {
-        return Given::Refused(Refusal::NothingThere);
+        return Err(Refusal::NothingThere);
     }
     let size = (mark - 1) as usize;
     if size > room {
-        return Given::Refused(Refusal::OutputShort);
+        return Err(Refusal::OutputShort);
     }
-    Given::Bytes(size)
+    Ok(size)
 }
 
-// The state's head once the next number is taken.
-fn release(h: Head) -> Head
-    requires { h.next.0 < 4294967295 }
-    ensures { result ≡ releasing h }
+// take on a state that is lent: the one body behind the call by value and the one in place.
+#[tactic(auto, using(crate::proofs::Outcomes::held_for), unfolding(crate::specs::Take::take_of, crate::specs::Take::passing))]
+pub fn take_in(r: &mut Receiver, store: &[u8], output: &mut [u8]) -> Result<usize, Refusal>
+    ensures { took_behind result r.new output.new ≡ take_of r.old store.now output.old }
 {
-    let mut after = h;
-    let next = SeqNo(h.next.0 + 1);
-    after.next = next;
-    after
-}
-
-// What take leaves beside the table and the output.
-#[derive(Clone, Copy)]
-pub struct TakenIn {
-    pub answer: Given,
-    pub head: Head,
-}
-
-// take, over the state's head and its table lent: the one body behind the call by value and the one in place.
-pub fn take_in(h: Head, marks: &mut [u16; 512], store: &[u8], output: &mut [u8]) -> TakenIn
-    requires { length marks.old ≡ 512 }
-    ensures { took_over result marks.new output.new
-        ≡ take_of (h over marks.old) store.now output.old }
-{
-    let answer = judge_take(h, &*marks, store.len(), output.len());
-    match answer {
-        Given::Refused(_) => TakenIn {
-            answer: answer,
-            head: h,
-        },
-        Given::Bytes(size) => {
-            let next = h.next.0;
-            let slot = h.slot;
-            let at = (next % 512) as usize;
-            let from = at * (slot as usize);
-            let end = from + size;
-            wire::put_bytes(output, &store[from..end]);
-            marks[at] = 0;
-            let after = release(h);
-            TakenIn {
-                answer: answer,
-                head: after,
-            }
-        }
-    }
+    let size = judge_take(r, store.len(), output.len())?;
+    let next = r.head.next.0;
+    let at = (next % 512) as usize;
+    let from = at * r.head.slot as usize;
+    wire::put_bytes(output, &store[from..from + size]);
+    r.marks[at] = 0;
+    r.head.next = SeqNo(next + 1);
+    Ok(size)
 }
 
 // Takes the next payload, if it is held: copies it to the output's front and frees its slot. Ports `InboundContext::pop_message`.
 pub fn take(r: Receiver, store: &[u8], output: &mut [u8]) -> Taken
     ensures { took result output.new ≡ take_of r store.now output.old }
 {
-    let mut s = r;
-    let h = s.head;
-    let done = take_in(h, &mut s.marks, store, output);
-    let after = done.head;
-    s.head = after;
-    let answer = done.answer;
-    Taken {
-        answer: answer,
-        state: s,
-    }
+    let mut state = r;
+    let answer = take_in(&mut state, store, output);
+    Taken { answer, state }
 }

@@ -3,6 +3,7 @@ use Rattle.std.specs.Prelude.{ℕ, ◌+◌, ◌-◌, ◌*◌, Bool, ◌||◌, le
 use Rattle.terms.specs.Ladder.{◌and◌}
 use Rattle.terms.specs.Lists.{all, each}
 use Rattle.receiver_state.specs.Slots.{is_free, is_held, length_of, mark_of, slot_number}
+use Rattle.receiver_state.specs.declared.Head.{Head}
 use Rattle.receiver_state.specs.declared.Receiver.{Receiver}
 
 -- a slot is free where its number is above highest; none is below next
@@ -11,6 +12,15 @@ free_outside next highest i mark = leb (slot_number next i) highest || is_free m
 
 abbrev pub length_at_most : ℕ → ℕ → Bool
 length_at_most slot mark = leb (length_of mark) slot
+
+-- those of the state rules that need no table
+abbrev pub numbers_of : Head → Bool
+numbers_of h =
+    leb 1 h.next.0 and
+    ltb h.start.0 h.next.0 and
+    leb (h.next.0 - 1) h.highest.0 and
+    leb h.highest.0 (h.next.0 + 511) and
+    leb h.highest.0 4294967294
 
 -- the state rules, in document 01's order; the slot size is judged as it stands, whatever it is
 unfoldable pub rules_of : Receiver → Bool

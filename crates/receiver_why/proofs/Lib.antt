@@ -1,4 +1,4 @@
--- The smallest missing number (Smallest), each case alone (Cases), the theorem that exactly one holds (One), the ways out of the code (Ways), and that the
+-- The smallest missing number (Smallest), each case alone (Cases), the theorem that exactly one holds (One), that the last number is told first (Ways), and that the
 -- promise has one result (Determined).
 pub mod Smallest
 pub mod Cases

@@ -1,9 +1,9 @@
 -- Why a piece is not delivered: document 02, request [6]. Of any receiver and any number, one of eight answers.
-use Rattle.std.specs.Prelude.{ℕ, zero, suc, ◌+◌, ◌-◌, not, List, [], ◌∷◌, leb, ltb, eqb}
+use Rattle.std.specs.Prelude.{ℕ, zero, suc, ◌+◌, ◌-◌, not, List, [], ◌∷◌, leb, ltb, eqb, Result}
 use Rattle.terms.specs.declared.SeqNo.{SeqNo}
 use Rattle.terms.specs.Ladder.{◌when◌else◌}
-use Rattle.terms.specs.Refusals.{number_of}
-use Rattle.terms.specs.Answers.{Said, refusal, values}
+use Rattle.terms.specs.declared.Refusal.{Refusal}
+use Rattle.terms.specs.Answers.{Said, refusal, values, told}
 use Rattle.receiver_state.specs.Slots.{is_free, mark_of}
 use Rattle.receiver_state.specs.Rules.{rules_of, slot_fits}
 use Rattle.receiver_state.specs.declared.Receiver.{Receiver}
@@ -69,14 +69,17 @@ why_of r number =
     last_number when eqb number.0 4294967295 else
     said_case r (case_of r number.0)
 
+-- a reason of the code in these numbers
+abbrev pub reason_said : Reason → List ℕ
+reason_said W.LastNumber = 1 ∷ []
+reason_said W.AtOrBelowStart = 2 ∷ []
+reason_said W.Taken = 3 ∷ []
+reason_said W.Ready = 4 ∷ []
+reason_said (W.BehindGap smallest) = 5 ∷ smallest.0 ∷ []
+reason_said W.Missing = 6 ∷ []
+reason_said W.NotYetSeen = 7 ∷ []
+reason_said W.BeyondSpan = 8 ∷ []
+
 -- an answer of the code, in these terms
-abbrev pub said_why : Reason → Said
-said_why W.LastNumber = last_number
-said_why W.AtOrBelowStart = values (2 ∷ [])
-said_why W.Taken = values (3 ∷ [])
-said_why W.Ready = values (4 ∷ [])
-said_why (W.BehindGap smallest) = values (5 ∷ smallest.0 ∷ [])
-said_why W.Missing = values (6 ∷ [])
-said_why W.NotYetSeen = values (7 ∷ [])
-said_why W.BeyondSpan = values (8 ∷ [])
-said_why (W.Refused why) = refusal (number_of why)
+abbrev pub said_why : Result Reason Refusal → Said
+said_why answer = told reason_said answer

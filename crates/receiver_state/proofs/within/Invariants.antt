@@ -1,12 +1,8 @@
--- `receiver_state::within` meets its contract: after i turns the flag says of the first i marks whether each is at most top. Assumes nothing.
-use Prim.Native.Nat.{◌-◌}
-use lib.ListN.{length}
-use Rattle.terms.proofs.Scan.{Scanned}
+-- `receiver_state::within`: the flag says of the marks looked at so far whether each is at most top; a mark has 16 bits, so that most says it too.
+use Rattle.std.proofs.Common.{◌≡◌, take, min}
+use Rattle.terms.specs.Lists.{all}
 use Rattle.receiver_state.specs.Slots.{at_most}
 use Rattle.receiver_state.proofs.within.Given as goal
 
-abbrev pub invariant-loop-i : goal.invariant-loop-i
-invariant-loop-i l = Scanned (at_most l.top) l.marks (length l.marks) 0 (length l.marks) (length l.marks) l.ok l.i
-
-abbrev pub decreases-loop-i : goal.decreases-loop-i
-decreases-loop-i l = length l.marks - l.i
+abbrev pub invariant-loop-mark : goal.invariant-loop-mark
+invariant-loop-mark l = (l.most ≡ min l.fn.top 65535) × (l.ok ≡ all (at_most l.fn.top) (take l.mark-index l.marks))

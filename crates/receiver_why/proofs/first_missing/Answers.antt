@@ -1,20 +1,16 @@
 -- `receiver_why::first_missing` meets its contract: the first missing of the numbers that are left is the first missing of all. Assumes nothing.
-use mathlib.Core.Path.{refl, ◌∙◌}
+use Prim.Native.Nat.{◌+◌}
+use mathlib.Core.Path.{◌≡◌, ◌∙◌}
 use native.Mathlib.Omega.{arith}
 use Rattle.receiver_why.proofs.Smallest.{stop_here, go_on, past_end}
 use Rattle.receiver_why.proofs.first_missing.Goals as goal
 
-pub loop-number-init : goal.loop-number-init
-loop-number-init c = (omega arith, refl)
-
-pub returns-then-marks-at-eq0 : goal.returns-then-marks-at-eq0
-returns-then-marks-at-eq0 c = let a = c.args in
-    stop_here a.marks.now c.loop-number.number a.highest.0 (omega arith) c.if-marks-at-eq0.true ∙ c.loop-number.invariant.1
+pub returns-then-r-number-eq0 : goal.returns-then-r-number-eq0
+returns-then-r-number-eq0 c = stop_here c.args.r.now.marks c.loop-number.number c.args.r.now.head.highest.0 (omega arith) c.if-r-number-eq0.true ∙ c.loop-number.invariant
 
 pub loop-number-preserved : goal.loop-number-preserved
-loop-number-preserved c = let a = c.args in
-    (omega arith, go_on a.marks.now c.loop-number.number a.highest.0 (omega arith) c.if-marks-at-eq0.false ∙ c.loop-number.invariant.1)
+loop-number-preserved c = go_on c.args.r.now.marks c.loop-number.number c.args.r.now.head.highest.0 (omega arith) c.if-r-number-eq0.false ∙ c.loop-number.invariant
 
 pub returns : goal.returns
-returns c = let a = c.args in
-    past_end a.marks.now c.loop-number.number a.highest.0 (omega arith) ∙ c.loop-number.invariant.1
+returns c = let e : c.args.r.now.head.highest.0 + 1 ≡ c.loop-number.number = omega arith in
+    e ∙ past_end c.args.r.now.marks c.loop-number.number c.args.r.now.head.highest.0 (omega arith) ∙ c.loop-number.invariant
