@@ -1,15 +1,15 @@
 -- What acks does, whatever it is given: its answer, and what it leaves of the state.
-use Rattle.std.specs.Prelude.{ℕ, ◌-◌, min, Bool, ◌&&◌, not, List, [], ◌∷◌, leb, ltb, eqb, length}
+use Rattle.std.specs.Prelude.{ℕ, ◌-◌, min, Bool, ◌&&◌, not, List, [], ◌∷◌, leb, ltb, eqb, length, Option}
 use Rattle.terms.specs.Ladder.{◌when◌else◌}
 use Rattle.terms.specs.Lists.{all}
-use Rattle.terms.specs.Answers.{Said, refusal, values, ◌unless_refused◌else◌}
+use Rattle.terms.specs.Answers.{Said, refusal, values, ◌unless_refused◌else◌, said_of}
 use Rattle.timer.specs.Timer.{sampled_of}
 use Rattle.timer.specs.Window.{grown_of}
-use Rattle.timer.specs.declared.Timing.{Timing}
+use Rattle.timer.specs.declared.Sampled.{Sampled}
 use Rattle.sender_state.specs.Table.{◌!◌, is_flying, differs, place_of}
 use Rattle.sender_state.specs.Places.{places_of, freeing, state_of}
 use Rattle.sender_state.specs.Rules.{rules, counts_fit, clock_wrong}
-use Rattle.sender_state.specs.Answers.{Outcome, said_tally}
+use Rattle.sender_state.specs.Answers.{Outcome}
 use Rattle.sender_state.specs.declared.Sender.{Sender}
 use Rattle.sender_state.specs.Numbers.{numbers_where}
 use Rattle.sender_acks.specs.declared.Acked.{Acked}
@@ -45,13 +45,13 @@ abbrev pub sample_of : List ℕ → List ℕ → ℕ → ℕ → ℕ
 sample_of numbers sent clock n = min (clock - (sent ! place_of numbers n)) 4294967295
 
 -- what a number's sample makes of the timing; a packet that was sent more than once gives none (document 02, request [5]: Karn's rule)
-abbrev pub measured_by : List ℕ → List ℕ → List ℕ → ℕ → Timing → ℕ → Timing
+abbrev pub measured_by : List ℕ → List ℕ → List ℕ → ℕ → Option Sampled → ℕ → Option Sampled
 measured_by numbers sent resent clock timing n =
     timing when eqb (resent ! place_of numbers n) 1 else
     sampled_of timing (sample_of numbers sent clock n)
 
 -- for each, in order: smooth; then the window grows
-abbrev pub timed_by : (Timing → ℕ → Timing) → Timing → List ℕ → Timing
+abbrev pub timed_by : (Option Sampled → ℕ → Option Sampled) → Option Sampled → List ℕ → Option Sampled
 timed_by measured timing [] = timing
 timed_by measured timing (n ∷ l) = timed_by measured (measured timing n) l
 
@@ -60,7 +60,7 @@ grown_by window [] = window
 grown_by window (n ∷ l) = grown_by (grown_of window) l
 
 -- a state with new timing and window at a clock, and each place that passes freed: every field 0
-abbrev pub freed_by : Sender → Timing → ℕ → ℕ → (ℕ → Bool) → Sender
+abbrev pub freed_by : Sender → Option Sampled → ℕ → ℕ → (ℕ → Bool) → Sender
 freed_by s timing window clock gone = state_of s.chunk s.count s.next.0 window timing s.timer clock (freeing (places_of s) gone)
 
 abbrev pub acks_leave : Sender → ℕ → List ℕ → ℕ → Sender
@@ -80,4 +80,4 @@ acks_of s through nacks clock =
 
 -- results of the code, as an outcome
 abbrev pub acked_out : Acked → Outcome
-acked_out r = record { says = said_tally r.answer; state = r.state; lent = [] }
+acked_out r = record { says = said_of r.answer; state = r.state; lent = [] }

@@ -1,6 +1,6 @@
 -- The state rules as the code tests them: place by place beside one bound, and each number against those before it. Assumes nothing.
 use Prim.Native.Nat.{ℕ, ◌+◌, ◌≤◌, ◌<◌, min}
-use mathlib.Core.Path.{◌≡◌, sym, ◌∙◌}
+use mathlib.Core.Path.{◌≡◌, refl, sym, ◌∙◌}
 use mathlib.Core.Bool.{Bool, true, false, ◌&&◌, true≢false}
 use native.Mathlib.Omega.{arith}
 use native.Mathlib.Decide.{ℕ_discrete, dec_lt}
@@ -8,6 +8,8 @@ use borrow.Author.Tests.{le-leb, lt-leb, leb-true, leb-false, lt-ltb, le-ltb, lt
 use lib.Dec.{leb, ltb, eqb}
 use lib.ListN.{length, take, length-take}
 use lib.Seq.{get_or-take}
+use Rattle.std.specs.Prelude.{Option, Some, None}
+use Rattle.std.specs.Option.{unwrap_or}
 use Rattle.terms.specs.Lists.{all}
 use Rattle.terms.proofs.Laws.{case, bool_iff, and_left, and_right, all_at, all_of, rung_passed, or_of}
 use Rattle.timer.specs.Timer.{timing_fits}
@@ -16,11 +18,11 @@ use Rattle.sender_check.specs.Steps.{every, alone_at, place_holds, holds_at}
 use Rattle.sender_check.specs.declared.Limits.{Limits}
 use Rattle.sender_state.specs.Places.{places_of, place_at}
 use Rattle.sender_state.specs.declared.Place.{Place}
-use Rattle.sender_state.specs.Steps.{least_of}
+use Rattle.sender_state.specs.Steps.{least_of, lowest_of}
 use Rattle.sender_state.specs.Rules.{timer_fits, rules}
 use Rattle.sender_state.specs.declared.Sender.{Sender}
 use Rattle.sender_check.proofs.Every.{every_at, every_of}
-use Rattle.sender_state.proofs.Folds.{least_at, least_there}
+use Rattle.sender_state.proofs.Folds.{least_at, least_there, lowest_is, lowest_not}
 use Rattle.sender_state.proofs.Facts.{unless_at, Ruled, ruled, rules_of_lem}
 
 -- what one place's test says
@@ -186,6 +188,13 @@ module _ (s : Sender) (table : length s.marks ≡ 192) (row : length s.numbers �
       let m : i < length (take j s.numbers) = simp length-take (omega arith) in
       let d = all_at (differs (s.numbers ! j)) (take j s.numbers) b i m in
       eqb-false _ _ (not-true _ d) (get_or-take j s.numbers i 0 h ∙ same)
+
+  -- the code's bound is the lowest waiting number, or next where that is lower or nothing waits
+  pub bound_is : s.next.0 ≤ 4294967295 → min (unwrap_or (lowest_of s.numbers s.marks 1 0) s.next.0) s.next.0 ≡ min (least_of s.numbers s.marks 1 0 192) s.next.0
+  bound_is width = go (lowest_of s.numbers s.marks 1 0) refl where
+    go : (o : Option ℕ) → lowest_of s.numbers s.marks 1 0 ≡ o → min (unwrap_or o s.next.0) s.next.0 ≡ min (least_of s.numbers s.marks 1 0 192) s.next.0
+    go None e = omega (arith, lowest_not s.numbers s.marks 1 0 e)
+    go (Some low) e = omega (arith, (lowest_is s.numbers s.marks 1 0 low e).0)
 
   abbrev bound : ℕ
   bound = min (least_of s.numbers s.marks 1 0 192) s.next.0

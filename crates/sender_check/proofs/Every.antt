@@ -32,9 +32,6 @@ unfolding every
 every_of p zero f = refl
 every_of p (suc n) f = and_both (every n p) (p n) (every_of p n (λ k h. f k (omega arith))) (f n (omega arith))
 
--- the last turn, and one more where a call gave the test's value
+-- one more turn, where a call gave the test's value
 pub every_turn : (p : ℕ → Bool) (ok one : Bool) (i : ℕ) → ok ≡ every i p → one ≡ p i → (ok && one) ≡ every (i + 1) p
 every_turn p ok one i e f = rw f (every_more p ok i e)
-
-pub every_last : (p : ℕ → Bool) (ok : Bool) (i n : ℕ) → ok ≡ every i p → i ≡ n → ok ≡ every n p
-every_last p ok i n e f = rw f at e

@@ -2,5 +2,4 @@
 pub mod Every
 pub mod Buckets
 pub mod Check
-pub mod Rungs
 pub mod Determined

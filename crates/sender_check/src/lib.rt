@@ -3,16 +3,16 @@
 
 ghost use Rattle.std.specs.Prelude.{◌≡◌, true, ◌≤◌, ◌<◌, length};
 ghost use Rattle.timer.specs.Timer.{timing_fits};
-ghost use Rattle.sender_state.specs.Places.{state_of};
+ghost use Rattle.sender_state.specs.Places.{places_of};
 ghost use Rattle.sender_state.specs.Rules.{timer_fits, rules};
 ghost use Rattle.sender_check.specs.Steps.{every, alone_at, place_holds, holds_at};
 
-use sender_state::{Place, Sender, Timer};
+use sender_state::{Place, Sender};
 use terms::SeqNo;
-use timer::Timing;
+use timer::Sampled;
 
 // What the rules of a place are judged by. The bound is next, or the lowest waiting number where that is below it.
-#[derive(Clone, Copy)]
+#[derive(Clone, Copy, Debug, PartialEq, Eq)]
 pub struct Limits {
     pub chunk: u32,
     pub count: u32,
@@ -22,6 +22,7 @@ pub struct Limits {
 }
 
 // Whether the number at index i is 0 or stands at no index below.
+#[tactic(auto, unfolding(crate::specs::Steps::alone_at))]
 fn alone(numbers: &[u32], i: usize) -> bool
     requires { i < length numbers.now }
     ensures { result ≡ alone_at numbers.now i }
@@ -35,23 +36,22 @@ fn alone(numbers: &[u32], i: usize) -> bool
 
 // A quick test that tells, where it passes, that no number but 0 stands twice: each has a remainder by 2,048 of its own. The numbers of
 // a stream lie close together, so its states pass, and the long comparison is for those that do not.
+#[tactic(auto, using(crate::proofs::Buckets::spreads_start, crate::proofs::Buckets::spreads_more, crate::proofs::Buckets::spreads_end))]
 fn spread(numbers: &[u32]) -> bool
     ensures { result ≡ true → every (length numbers.now) (alone_at numbers.now) ≡ true }
 {
     let mut seen = [0u8; 2048];
     let mut ok = true;
-    let mut i = 0;
-    while i < numbers.len() {
-        let x = numbers[i];
-        let at = (x % 2048) as usize;
-        ok = ok & ((x == 0) | (seen[at] == 0));
+    for x in numbers {
+        let at = (*x % 2048) as usize;
+        ok = ok & ((*x == 0) | (seen[at] == 0));
         seen[at] = 1;
-        i += 1;
     }
     ok
 }
 
 // Whether no number but 0 stands twice.
+#[tactic(auto, using(crate::proofs::Every::every_none, crate::proofs::Every::every_more))]
 fn all_alone(numbers: &[u32]) -> bool
     ensures { result ≡ every (length numbers.now) (alone_at numbers.now) }
 {
@@ -59,16 +59,14 @@ fn all_alone(numbers: &[u32]) -> bool
         return true;
     }
     let mut ok = true;
-    let mut i = 0;
-    while i < numbers.len() {
-        let one = alone(numbers, i);
-        ok = ok & one;
-        i += 1;
+    for i in 0..numbers.len() {
+        ok = ok & alone(numbers, i);
     }
     ok
 }
 
 // Whether one place keeps its own rules. The lengths are compared in 64 bits: the chunk size may be any number here.
+#[tactic(auto, unfolding(crate::specs::Steps::place_holds))]
 fn place_holds(l: Limits, i: usize, p: Place) -> bool
     ensures { result ≡ place_holds l i p }
 {
@@ -100,131 +98,85 @@ fn place_holds(l: Limits, i: usize, p: Place) -> bool
 }
 
 // Whether each place keeps its own rules.
-fn places_hold<'a>(
-    limits: Limits,
-    numbers: &'a [u32],
-    lengths: &'a [u32],
-    sent: &'a [u64],
-    resent: &'a [u32],
-    marks: &'a [u32],
-) -> bool
-    requires { (length numbers.now ≡ 192) × (length lengths.now ≡ 192) × (length sent.now ≡ 192) × (length resent.now ≡ 192) × (length marks.now ≡ 192) }
-    ensures { result ≡ every 192 (holds_at limits (record { numbers = numbers.now; lengths = lengths.now; sent = sent.now; resent = resent.now; marks = marks.now })) }
+#[tactic(auto, using(crate::proofs::Every::every_none, crate::proofs::Every::every_more))]
+fn places_hold(limits: Limits, s: &Sender) -> bool
+    ensures { result ≡ every 192 (holds_at limits (places_of s.now)) }
 {
     let mut ok = true;
-    let mut i = 0;
-    while i < 192 {
-        let number = SeqNo(numbers[i]);
+    for i in 0..192 {
         let place = Place {
-            number: number,
-            size: lengths[i],
-            sent: sent[i],
-            resent: resent[i],
-            mark: marks[i],
+            number: SeqNo(s.numbers[i]),
+            size: s.lengths[i],
+            sent: s.sent[i],
+            resent: s.resent[i],
+            mark: s.marks[i],
         };
-        let one = place_holds(limits, i, place);
-        ok = ok & one;
-        i += 1;
+        ok = ok & place_holds(limits, i, place);
     }
     ok
 }
 
 // Whether an armed timer is at most 60,000 past the last clock, which is itself at most 10^15.
-fn timer_fits(timer: Timer, clock: u64) -> bool
+#[tactic(auto, unfolding(sender_state::specs::Rules::timer_fits))]
+fn timer_fits(timer: Option<u64>, clock: u64) -> bool
     requires { clock ≤ 1000000000000000 }
     ensures { result ≡ timer_fits timer clock }
 {
     match timer {
-        Timer::Unarmed => true,
-        Timer::At(at) => at <= clock + 60000,
+        None => true,
+        Some(due) => due <= clock + 60000,
     }
 }
 
 // Whether the smoothed time and its deviation are below 2^32, as 32 bits always are.
-fn timing_fits(timing: Timing) -> bool
+#[tactic(auto, unfolding(timer::specs::Timer::timing_fits))]
+fn timing_fits(timing: Option<Sampled>) -> bool
     ensures { result ≡ timing_fits timing }
 {
     match timing {
-        Timing::Unsampled => true,
-        Timing::Sampled { rtt, deviation } => {
+        None => true,
+        Some(Sampled { rtt, deviation }) => {
             ((rtt as u64) < 4294967296) & ((deviation as u64) < 4294967296)
         }
     }
 }
 
-// Whether a state keeps document 01's rules: what stands behind refusal 11, here and in the calls above. It runs at every call.
+// Whether a state keeps document 01's rules: what stands behind refusal 11, here and in the calls above, each of which asks it first.
 // Each part is a pass over the table without an early way out.
-fn rules_hold<'a>(
-    chunk: u32,
-    count: u32,
-    next: SeqNo,
-    window: u32,
-    timing: Timing,
-    timer: Timer,
-    clock: u64,
-    numbers: &'a [u32],
-    lengths: &'a [u32],
-    sent: &'a [u64],
-    resent: &'a [u32],
-    marks: &'a [u32],
-) -> bool
-    requires { (length numbers.now ≡ 192) × (length lengths.now ≡ 192) × (length sent.now ≡ 192) × (length resent.now ≡ 192) × (length marks.now ≡ 192) }
-    ensures { result ≡ rules (state_of chunk count next.0 window timing timer clock (record {
-      numbers = numbers.now;
-      lengths = lengths.now;
-      sent = sent.now;
-      resent = resent.now;
-      marks = marks.now;
-    })) }
+pub fn valid(s: &Sender) -> bool
+    ensures { result ≡ rules s.now }
 {
-    if next.0 < 1 {
+    if s.next.0 < 1 {
         return false;
     }
-    if window < 1 {
+    if s.window < 1 {
         return false;
     }
-    if window > 128 {
+    if s.window > 128 {
         return false;
     }
-    if clock > 1000000000000000 {
+    if s.clock > 1000000000000000 {
         return false;
     }
-    if !timer_fits(timer, clock) {
+    if !timer_fits(s.timer, s.clock) {
         return false;
     }
-    if !timing_fits(timing) {
+    if !timing_fits(s.timing) {
         return false;
     }
-    if sender_state::count_of(marks, 2) > 128 {
+    if sender_state::count_of(&s.marks, 2) > 128 {
         return false;
     }
-    if !all_alone(numbers) {
+    if !all_alone(&s.numbers) {
         return false;
     }
-    let bound = SeqNo(sender_state::smaller(sender_state::least(numbers, marks, 1, 0), next.0));
+    let lowest = sender_state::least(&s.numbers, &s.marks, 1, 0).unwrap_or(s.next.0);
     let limits = Limits {
-        chunk: chunk,
-        count: count,
-        next: next,
-        bound: bound,
-        clock: clock,
+        chunk: s.chunk,
+        count: s.count,
+        next: s.next,
+        bound: SeqNo(lowest.min(s.next.0)),
+        clock: s.clock,
     };
-    places_hold(limits, numbers, lengths, sent, resent, marks)
-}
-
-// The same of a state by value: what each call asks first.
-pub fn valid(s: Sender) -> bool
-    ensures { result ≡ rules s }
-{
-    let chunk = s.chunk;
-    let count = s.count;
-    let next = s.next;
-    let window = s.window;
-    let timing = s.timing;
-    let timer = s.timer;
-    let clock = s.clock;
-    rules_hold(
-        chunk, count, next, window, timing, timer, clock, &s.numbers, &s.lengths, &s.sent,
-        &s.resent, &s.marks,
-    )
+    places_hold(limits, s)
 }

@@ -8,15 +8,15 @@ use native.Mathlib.Omega.{arith}
 use borrow.Author.Tests.{le-leb, lt-leb, ne_eqb, eqb-true}
 use lib.Dec.{ltb}
 use lib.ListN.{length, take}
+use Rattle.std.specs.Prelude.{Option}
 use Rattle.terms.specs.Lists.{all}
 use Rattle.terms.proofs.Laws.{case, and_left, and_right, and_both}
 use Rattle.timer.specs.Timer.{timing_fits, rto_of}
-use Rattle.timer.specs.declared.Timing.{Timing}
+use Rattle.timer.specs.declared.Sampled.{Sampled}
 use Rattle.sender_state.specs.Table.{◌!◌, is_flying, differs, place_of}
 use Rattle.sender_state.specs.Places.{places_of, stamping, state_of}
 use Rattle.sender_state.specs.Rules.{timer_fits}
 use Rattle.sender_state.specs.declared.Sender.{Sender}
-use Rattle.sender_state.specs.declared.Timer.{Timer}
 use Rattle.sender_state.proofs.Facts.{Ruled, rules_of_lem}
 use Rattle.sender_state.specs.Numbers.{in_flight}
 use Rattle.sender_resend.specs.Resend.{run_while, aged, expired_of, is_empty, is_in}
@@ -86,7 +86,7 @@ module _ (s : Sender) (store : List ℕ) (sound : Sound s store) where
       (ℕ_discrete (s.marks ! i) 0)
 
   -- the same table with other times, and others sent more than once
-  module _ (window : ℕ) (timing : Timing) (timer : Timer) (clock : ℕ) (sent resent : List ℕ) (long : length sent ≡ 192) (flagged : length resent ≡ 192)
+  module _ (window : ℕ) (timing : Option Sampled) (timer : Option ℕ) (clock : ℕ) (sent resent : List ℕ) (long : length sent ≡ 192) (flagged : length resent ≡ 192)
       (once : (i : ℕ) → i < 192 → (s.marks ! i ≡ 2 → ⊥) → resent ! i ≡ s.resent ! i) (flag : (i : ℕ) → i < 192 → resent ! i ≤ 1)
       (quiet : (i : ℕ) → i < 192 → (s.marks ! i ≡ 2 → ⊥) → sent ! i ≡ s.sent ! i) (past : (i : ℕ) → i < 192 → sent ! i ≤ clock)
       (most : clock ≤ 1000000000000000) (due : timer_fits timer clock ≡ true) (fits : timing_fits timing ≡ true) (least : 1 ≤ window) (top : window ≤ 128) where
@@ -137,7 +137,7 @@ module _ (s : Sender) (store : List ℕ) (sound : Sound s store) where
     }
 
   -- the numbers that pass fly since the clock, with the packets that they had, and every other number stands as it stood
-  pub resent_means : (p : ℕ → Bool) (window : ℕ) (timing : Timing) (timer : Timer) (clock n : ℕ)
+  pub resent_means : (p : ℕ → Bool) (window : ℕ) (timing : Option Sampled) (timer : Option ℕ) (clock n : ℕ)
       → standing (state_of s.chunk s.count s.next.0 window timing timer clock (stamping (places_of s) (λ i. p (s.numbers ! i)) clock)) store n
       ≡ resent_as p clock n (standing s store n)
   unfolding standing

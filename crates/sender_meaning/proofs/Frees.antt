@@ -7,10 +7,11 @@ use native.Mathlib.Omega.{arith}
 use borrow.Author.Tests.{eqb-true}
 use lib.Dec.{eqb}
 use lib.ListN.{length}
+use Rattle.std.specs.Prelude.{Option}
 use Rattle.terms.proofs.Laws.{and_left, and_right}
 use Rattle.timer.specs.Window.{grown_of}
 use Rattle.timer.specs.Timer.{timing_fits}
-use Rattle.timer.specs.declared.Timing.{Timing}
+use Rattle.timer.specs.declared.Sampled.{Sampled}
 use Rattle.timer.proofs.Laws.{sampled_fits, grown_least, grown_most}
 use Rattle.sender_state.specs.Table.{◌!◌, is_flying, place_of, replaced}
 use Rattle.sender_state.specs.Rules.{timer_fits}
@@ -24,14 +25,14 @@ use Rattle.sender_meaning.proofs.Counts.{by_bool, count_freed}
 use Rattle.sender_meaning.proofs.Stands.{flies_at, at_same, unmade_from, facts, one_place, where_is, nowhere_gone, stands_at, flies_mark}
 
 -- what a number makes of a timing that fits is one, and a window from 1 to 128 stays one
-pub measured_fits : (numbers sent resent : List ℕ) (clock : ℕ) (timing : Timing) (n : ℕ) → timing_fits timing ≡ true → timing_fits (measured_by numbers sent resent clock timing n) ≡ true
+pub measured_fits : (numbers sent resent : List ℕ) (clock : ℕ) (timing : Option Sampled) (n : ℕ) → timing_fits timing ≡ true → timing_fits (measured_by numbers sent resent clock timing n) ≡ true
 measured_fits numbers sent resent clock timing n t =
     by_bool (eqb (resent ! place_of numbers n) 1)
     (λ again. rw again t)
     (λ once. rw once (sampled_fits timing (sample_of numbers sent clock n) t (omega arith)))
 
-pub timed_fits : (measured : Timing → ℕ → Timing) → ((timing : Timing) (n : ℕ) → timing_fits timing ≡ true → timing_fits (measured timing n) ≡ true)
-    → (timing : Timing) (l : List ℕ) → timing_fits timing ≡ true → timing_fits (timed_by measured timing l) ≡ true
+pub timed_fits : (measured : Option Sampled → ℕ → Option Sampled) → ((timing : Option Sampled) (n : ℕ) → timing_fits timing ≡ true → timing_fits (measured timing n) ≡ true)
+    → (timing : Option Sampled) (l : List ℕ) → timing_fits timing ≡ true → timing_fits (timed_by measured timing l) ≡ true
 timed_fits measured f timing [] t = t
 timed_fits measured f timing (n ∷ l) t = timed_fits measured f _ l (f timing n t)
 
@@ -47,7 +48,7 @@ module _ (pass : ℕ → Bool) (l : List ℕ) (i : ℕ) (inside : i < length l) 
   freed_there : pass i ≡ false → replaced 0 pass 0 l ! i ≡ l ! i
   freed_there f = replaced_at 0 pass l i inside ∙ rw f
 
-module _ (s : Sender) (store : List ℕ) (sound : Sound s store) (pass : ℕ → Bool) (timing : Timing) (window clock : ℕ) where
+module _ (s : Sender) (store : List ℕ) (sound : Sound s store) (pass : ℕ → Bool) (timing : Option Sampled) (window clock : ℕ) where
   -- a place that is not free was not free, and is none of those
   module _ (i : ℕ) (h : i < 192) (o : replaced 0 pass 0 s.marks ! i ≡ 0 → ⊥) where
     spared : pass i ≡ false
@@ -149,7 +150,7 @@ stays through nacks n (waits packet) f = refl
 stays through nacks n (flies packet sent) f = rw (f refl)
 stays through nacks n gone f = refl
 
-module _ (s : Sender) (store : List ℕ) (sound : Sound s store) (through : ℕ) (nacks : List ℕ) (timing : Timing) (window clock : ℕ) where
+module _ (s : Sender) (store : List ℕ) (sound : Sound s store) (through : ℕ) (nacks : List ℕ) (timing : Option Sampled) (window clock : ℕ) where
   abbrev pass : ℕ → Bool
   pass = acked_at s.numbers s.marks through nacks
 

@@ -9,12 +9,11 @@ use native.Mathlib.Omega.{arith}
 use borrow.Author.Tests.{le-leb, eq-eqb, ne_eqb, leb-true}
 use lib.ListN.{length, set, length-set}
 use lib.Seq.{get_or-set_same, get_or-set_other}
+use Rattle.std.specs.Prelude.{Option, Some, None}
 use Rattle.terms.proofs.Laws.{case}
 use Rattle.sender_state.specs.Table.{◌!◌, count_of}
 use Rattle.sender_state.specs.Rules.{timer_fits}
 use Rattle.sender_state.specs.declared.Sender.{Sender}
-use Rattle.sender_state.specs.declared.Timer.{Timer}
-use Rattle.sender_state.specs.declared.Timer.TheVariants as T
 use Rattle.sender_state.proofs.Facts.{Ruled, rules_of_lem}
 use Rattle.sender_send.specs.Send.{armed, moved}
 use Rattle.sender_meaning.specs.Meaning.{Standing, unmade, waits, flies, gone, standing, Sound}
@@ -23,15 +22,15 @@ use Rattle.sender_meaning.proofs.Counts.{count_set}
 use Rattle.sender_meaning.proofs.Stands.{waits_at, flies_at, at_same, unmade_from, facts, one_place, where_is, nowhere_gone, stands_at}
 
 -- a timer that was in time still is, and so is one that is armed now
-pub later_fits : (timer : Timer) (last clock : ℕ) → timer_fits timer last ≡ true → last ≤ clock → timer_fits timer clock ≡ true
+pub later_fits : (timer : Option ℕ) (last clock : ℕ) → timer_fits timer last ≡ true → last ≤ clock → timer_fits timer clock ≡ true
 unfolding timer_fits
-later_fits T.Unarmed last clock f a = refl
-later_fits (T.At due) last clock f a = let d = leb-true due (last + 60000) f in le-leb due (clock + 60000) (omega arith)
+later_fits None last clock f a = refl
+later_fits (Some due) last clock f a = let d = leb-true due (last + 60000) f in le-leb due (clock + 60000) (omega arith)
 
-pub armed_fits : (timer : Timer) (last clock rto : ℕ) → timer_fits timer last ≡ true → last ≤ clock → rto ≤ 60000 → timer_fits (armed timer (clock + rto)) clock ≡ true
+pub armed_fits : (timer : Option ℕ) (last clock rto : ℕ) → timer_fits timer last ≡ true → last ≤ clock → rto ≤ 60000 → timer_fits (armed timer (clock + rto)) clock ≡ true
 unfolding timer_fits armed
-armed_fits T.Unarmed last clock rto f a b = le-leb (clock + rto) (clock + 60000) (omega arith)
-armed_fits (T.At due) last clock rto f a b = later_fits (T.At due) last clock f a
+armed_fits None last clock rto f a b = le-leb (clock + rto) (clock + 60000) (omega arith)
+armed_fits (Some due) last clock rto f a b = later_fits (Some due) last clock f a
 
 -- a packet of a place that waits moves in flight
 module _ (s : Sender) (store : List ℕ) (sound : Sound s store) (place : ℕ) (inside : place < 192) (Waits-there : s.marks ! place ≡ 1)
@@ -69,7 +68,7 @@ module _ (s : Sender) (store : List ℕ) (sound : Sound s store) (place : ℕ) (
       let o : i ≡ place → ⊥ = λ e. omega (arith, mark_here, rw e at w) in
       (o, sym (mark_there i o) ∙ w)
 
-  pub moved_keeps : count_of 2 s.marks < s.window → clock ≤ 1000000000000000 → (timer : Timer) → timer_fits timer clock ≡ true → Ruled (moved s place clock timer)
+  pub moved_keeps : count_of 2 s.marks < s.window → clock ≤ 1000000000000000 → (timer : Option ℕ) → timer_fits timer clock ≡ true → Ruled (moved s place clock timer)
   moved_keeps room most timer due =
       let r = facts s store sound in
       let l : length (set s.marks place 2) ≡ length s.marks = length-set s.marks place 2 in
@@ -124,7 +123,7 @@ module _ (s : Sender) (store : List ℕ) (sound : Sound s store) (place : ℕ) (
             (ℕ_discrete i place);
       }
 
-  pub moved_sound : count_of 2 s.marks < s.window → clock ≤ 1000000000000000 → (timer : Timer) → timer_fits timer clock ≡ true → Sound (moved s place clock timer) store
+  pub moved_sound : count_of 2 s.marks < s.window → clock ≤ 1000000000000000 → (timer : Option ℕ) → timer_fits timer clock ≡ true → Sound (moved s place clock timer) store
   moved_sound room most timer due = record {
     numbers_long = sound.numbers_long;
     lengths_long = sound.lengths_long;
@@ -143,7 +142,7 @@ module _ (s : Sender) (store : List ℕ) (sound : Sound s store) (place : ℕ) (
   other_stays n o gone = refl
 
   -- its number flies, and every other stands as it stood
-  pub moved_means : (timer : Timer) → Sound (moved s place clock timer) store → (n : ℕ)
+  pub moved_means : (timer : Option ℕ) → Sound (moved s place clock timer) store → (n : ℕ)
       → standing (moved s place clock timer) store n ≡ sent_as (s.numbers ! place) clock n (standing s store n)
   moved_means timer after n =
       let t = moved s place clock timer in

@@ -6,20 +6,18 @@ use mathlib.Core.Bool.{Bool, true, false, ◌&&◌, ◌||◌, not, true≢false}
 use mathlib.Core.List.{List, [], ◌∷◌}
 use native.Mathlib.Omega.{arith}
 use borrow.Author.Tests.{le-leb}
+use Rattle.std.specs.Prelude.{Option, Some, None}
 use Rattle.terms.specs.Ladder.{◌when◌else◌}
 use Rattle.terms.proofs.Laws.{rung, past}
 use Rattle.terms.specs.Answers.{refusal, values}
 use Rattle.receiver_calls.proofs.Laws.{by_said}
 use Rattle.timer.specs.Timer.{rto_of, timing_fits}
 use Rattle.timer.specs.Window.{fallen_of}
-use Rattle.timer.specs.declared.Timing.TheVariants as G
 use Rattle.timer.proofs.Laws.{rto_most, fallen_least, fallen_most}
 use Rattle.sender_state.specs.Table.{◌!◌, replaced}
 use Rattle.sender_state.specs.Rules.{timer_fits, rules, counts_fit, clock_wrong}
 use Rattle.sender_state.specs.Answers.{Outcome}
 use Rattle.sender_state.specs.declared.Sender.{Sender}
-use Rattle.sender_state.specs.declared.Timer.{Timer}
-use Rattle.sender_state.specs.declared.Timer.TheVariants as T
 use Rattle.sender_state.specs.Numbers.{in_flight}
 use Rattle.sender_resend.specs.Resend.{is_due, resend_refusal, expired_of, is_empty, is_in, timed_at, resent_by, resend_leaves, resend_count, resend_of}
 use Rattle.sender_state.proofs.Replaced.{replaced_length, replaced_at}
@@ -68,7 +66,7 @@ module _ (s : Sender) (clock : ℕ) (path : Bool) where
 
     module _ (later : s.clock ≤ clock) (most : clock ≤ 1000000000000000) where
       -- another timer, and no number goes again
-      left_timed : (timer : Timer) → timer_fits timer clock ≡ true → ((n : ℕ) → goes_again s clock path n ≡ false) → Left (timed_at s timer clock)
+      left_timed : (timer : Option ℕ) → timer_fits timer clock ≡ true → ((n : ℕ) → goes_again s clock path n ≡ false) → Left (timed_at s timer clock)
       unfolding standing
       left_timed timer due none =
           let r = facts s store sound in
@@ -96,14 +94,14 @@ module _ (s : Sender) (clock : ℕ) (path : Bool) where
           let spared : (i : ℕ) → i < 192 → (s.marks ! i ≡ 2 → ⊥) → again i ≡ false =
           λ i h o. by_bool (again i) (λ t. absurd (o (flies_there s store sound i h (expired_flies s store clock (s.numbers ! i) t)))) (λ f. f) in
           record {
-            stays_sound = retimed_sound s store sound (fallen_of s.window) G.Unsampled (T.At (clock + 9000)) clock (replaced clock again 0 s.sent) (replaced 1 again 0 s.resent)
+            stays_sound = retimed_sound s store sound (fallen_of s.window) None (Some (clock + 9000)) clock (replaced clock again 0 s.sent) (replaced 1 again 0 s.resent)
                 (replaced_length clock again 0 s.sent ∙ sound.sent_long) (replaced_length 1 again 0 s.resent ∙ sound.resent_long)
                 (λ i h o. mark i h ∙ rw (spared i h o))
                 (λ i h. rw (mark i h) (by_bool (again i) (λ t. rw t (omega arith)) (λ f. rw f (r.once_or_more i (omega (arith, sound.marks_long))))))
                 (λ i h o. at i h ∙ rw (spared i h o))
                 (λ i h. rw (at i h) (by_bool (again i) (λ t. rw t (omega arith)) (λ f. rw f (omega (arith, r.past i (omega (arith, sound.marks_long)))))))
                 most (le-leb (clock + 9000) (clock + 60000) (omega arith)) refl (fallen_least s.window r.window_some) (fallen_most s.window r.window_most);
-            means = λ n. rw there (resent_means s store sound (is_in (expired_of s clock)) (fallen_of s.window) G.Unsampled (T.At (clock + 9000)) clock n);
+            means = λ n. rw there (resent_means s store sound (is_in (expired_of s clock)) (fallen_of s.window) None (Some (clock + 9000)) clock n);
             next_same = refl;
             chunk_same = refl;
             count_same = refl;
@@ -114,11 +112,11 @@ module _ (s : Sender) (clock : ℕ) (path : Bool) where
       unfolding timer_fits
       leaves_left =
           rung Left (is_empty (in_flight s))
-          (λ t. left_timed T.Unarmed refl (idle_none s clock path t))
+          (λ t. left_timed None refl (idle_none s clock path t))
           (λ _.
           rung Left (is_empty (expired_of s clock) || not path)
           (λ t.
-          left_timed (T.At (clock + rto_of s.timing)) (le-leb (clock + rto_of s.timing) (clock + 60000) (omega (arith, rto_most s.timing)))
+          left_timed (Some (clock + rto_of s.timing)) (le-leb (clock + rto_of s.timing) (clock + 60000) (omega (arith, rto_most s.timing)))
           (λ n. young (is_empty (expired_of s clock)) path (is_in (expired_of s clock) n) t (λ e. none_in (expired_of s clock) e n)))
           (λ f. left_again (has_path (is_empty (expired_of s clock)) path f))) where
             young : (none path expired : Bool) → (none || not path) ≡ true → (none ≡ true → expired ≡ false) → (path && expired) ≡ false

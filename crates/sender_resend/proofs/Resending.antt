@@ -1,7 +1,7 @@
 -- What resend leaves, once the expired packets are found. Assumes nothing.
 use Prim.Native.Nat.{ℕ, ◌+◌, ◌-◌, ◌≤◌, ◌<◌}
 use mathlib.Core.Path.{◌≡◌, refl, sym, ◌∙◌, ap}
-use mathlib.Core.Bool.{Bool, true, false, ◌||◌, not, or-true}
+use mathlib.Core.Bool.{Bool, true, false, ◌||◌, not, or-true, true≢false}
 use mathlib.Core.List.{List, [], ◌∷◌}
 use native.Mathlib.Nat.{not-suc-le-zero}
 use native.Mathlib.Decide.{ℕ_discrete, dec_lt}
@@ -10,24 +10,21 @@ use borrow.Author.Tests.{eq-eqb, ne_eqb, eqb-true, lt-ltb, le-ltb, lt-leb, not-f
 use lib.Dec.{eqb}
 use lib.ListN.{length}
 use lib.Seq.{take-nil}
-use Rattle.terms.specs.Refusals.{number_of}
-use Rattle.terms.specs.declared.Refusal.{Refusal}
 use Rattle.terms.proofs.Laws.{case, or_left, past as passed-rung}
-use Rattle.terms.specs.Answers.{refusal, values, said}
-use Rattle.terms.specs.declared.Answer.{Answer}
-use Rattle.terms.specs.declared.Answer.TheVariants as A
+use Rattle.terms.specs.Answers.{values}
 use Rattle.timer.specs.Timer.{rto_of}
 use Rattle.sender_state.specs.Table.{◌!◌, place_of}
 use Rattle.sender_state.specs.Rules.{rules, counts_fit, clock_wrong}
 use Rattle.sender_state.specs.Answers.{Outcome}
 use Rattle.sender_state.specs.declared.Sender.{Sender}
-use Rattle.sender_state.specs.declared.Timer.TheVariants as T
+use Rattle.std.specs.Prelude.{Option, Some, None}
+use Rattle.std.specs.Option.{is_some}
 use Rattle.sender_state.specs.Numbers.{run, marked_with, in_flight}
 use Rattle.sender_resend.specs.Steps.{flying_below}
-use Rattle.sender_state.specs.Steps.{least_of, Tidy}
-use Rattle.sender_resend.specs.Resend.{resend_refusal, expired_of, is_empty, is_in, timed_at, resent_by, resend_leaves, resend_count, resend_of}
+use Rattle.sender_state.specs.Steps.{lowest_of, Tidy}
+use Rattle.sender_resend.specs.Resend.{resend_refusal, expired_of, is_empty, is_in, timed_at, resent_by, resend_leaves, resend_count}
 use Rattle.sender_state.proofs.Runs.{beyond, in_run, not_in}
-use Rattle.sender_state.proofs.Search.{place_is, stored, Ahead, ahead}
+use Rattle.sender_state.proofs.Search.{place_is, stored, ahead_some, ahead_none}
 use Rattle.sender_state.proofs.Facts.{clock_fair}
 
 -- of the numbers in flight below end, those of the places in flight with numbers below end
@@ -67,41 +64,36 @@ module _ (numbers marks : List ℕ) (next end : ℕ) (tidy : Tidy numbers marks 
   pub again_same : (l : List ℕ) → run flies 0 end ≡ l → flying_below numbers marks end ≡ (λ i. is_in l (numbers ! i))
   again_same l e = λ k i. (sym (same_places i) ∙ ap (λ (x : List ℕ). is_in x (numbers ! i)) e) k
 
--- what keeps resend from being done, and what holds where nothing does
-module _ (s : Sender) (clock : ℕ) (path : Bool) (answer : Answer) (judged : said answer ≡ resend_refusal s clock) where
-  pub resend_kept : (why : Refusal) → answer ≡ A.Refused why → ◌≡◌ {A = Outcome} (record { says = refusal (number_of why); state = s; lent = [] }) (resend_of s clock path)
-  unfolding resend_of
-  resend_kept why is = let e : resend_refusal s clock ≡ refusal (number_of why) = sym judged ∙ ap said is in simp e
-
-  pub resend_pass : answer ≡ A.Done → ◌≡◌ {A = Outcome} (record { says = values (resend_count s clock path ∷ []); state = resend_leaves s clock path; lent = [] }) (resend_of s clock path)
-  unfolding resend_of
-  resend_pass is = let e : resend_refusal s clock ≡ values [] = sym judged ∙ ap said is in simp e
-
-  pub resend_fair : answer ≡ A.Done → (rules s ≡ true) × (s.clock ≤ clock) × (clock ≤ 1000000000000000)
-  unfolding resend_refusal
-  resend_fair is =
-      let p11 = passed-rung 11 (not (rules s)) _ [] (sym judged ∙ ap said is) in
-      let p10 = passed-rung 10 (not (counts_fit s.chunk s.count)) _ [] p11.1 in
-      let p24 = passed-rung 24 (clock_wrong s.clock clock) _ [] p10.1 in
-      let fair = clock_fair s.clock clock p24.0 in
-      (not-false (rules s) p11.0, fair.0, fair.1)
+-- what holds where nothing keeps resend from being done
+pub resend_fair : (s : Sender) (clock : ℕ) → values [] ≡ resend_refusal s clock → (rules s ≡ true) × (s.clock ≤ clock) × (clock ≤ 1000000000000000)
+unfolding resend_refusal
+resend_fair s clock done =
+    let p11 = passed-rung 11 (not (rules s)) _ [] (sym done) in
+    let p10 = passed-rung 10 (not (counts_fit s.chunk s.count)) _ [] p11.1 in
+    let p24 = passed-rung 24 (clock_wrong s.clock clock) _ [] p10.1 in
+    let fair = clock_fair s.clock clock p24.0 in
+    (not-false (rules s) p11.0, fair.0, fair.1)
 
 nothing : (l : List ℕ) → length l ≤ 0 → l ≡ []
 nothing [] h = refl
 nothing (x ∷ l) h = absurd (not-suc-le-zero h)
 
 -- what the search for the lowest number in flight tells
-module _ (s : Sender) (tidy : Tidy s.numbers s.marks 2 s.next.0) (low : ℕ) (e : low ≡ least_of s.numbers s.marks 2 0 192) where
-  lowest : Ahead (λ n. marked_with 2 s.marks (place_of s.numbers n)) s.next.0 low (in_flight s)
-  lowest =
-      let z : s.next.0 - 0 ≡ s.next.0 = omega arith in
-      rw e (rw z at (ahead s.numbers s.marks 2 s.next.0 tidy 0 (omega arith)))
+module _ (s : Sender) (tidy : Tidy s.numbers s.marks 2 s.next.0) where
+  all : run (λ n. marked_with 2 s.marks (place_of s.numbers n)) 0 (s.next.0 - 0) ≡ in_flight s
+  all = let z : s.next.0 - 0 ≡ s.next.0 = omega arith in rw z
 
-  pub none_flies : low ≡ 4294967295 → length (in_flight s) ≤ 0
-  none_flies q = rw (lowest.none q) (omega arith)
+  pub none_flies : is_some (lowest_of s.numbers s.marks 2 0) ≡ false → length (in_flight s) ≤ 0
+  none_flies t = go (lowest_of s.numbers s.marks 2 0) refl t where
+    go : (o : Option ℕ) → lowest_of s.numbers s.marks 2 0 ≡ o → is_some o ≡ false → length (in_flight s) ≤ 0
+    go None e t = rw (sym all ∙ ahead_none s.numbers s.marks 2 s.next.0 tidy 0 e) (omega arith)
+    go (Some n) e t = absurd (true≢false t)
 
-  pub some_flies : (low ≡ 4294967295 → ⊥) → 0 < length (in_flight s)
-  some_flies o = rw (lowest.more (omega (arith, lowest.most, o))) (omega arith)
+  pub some_flies : is_some (lowest_of s.numbers s.marks 2 0) ≡ true → 0 < length (in_flight s)
+  some_flies t = go (lowest_of s.numbers s.marks 2 0) refl t where
+    go : (o : Option ℕ) → lowest_of s.numbers s.marks 2 0 ≡ o → is_some o ≡ true → 0 < length (in_flight s)
+    go None e t = absurd (true≢false (sym t))
+    go (Some n) e t = let f = ahead_some s.numbers s.marks 2 s.next.0 tidy 0 n (omega arith) e in rw (sym all ∙ f.more) (omega arith)
 
 -- the three ways
 module _ (s : Sender) (clock : ℕ) where
@@ -109,7 +101,7 @@ module _ (s : Sender) (clock : ℕ) where
   Left path = record { says = values (resend_count s clock path ∷ []); state = resend_leaves s clock path; lent = [] }
 
   -- nothing in flight
-  pub left_idle : (path : Bool) → length (in_flight s) ≤ 0 → (state : Sender) → state ≡ timed_at s T.Unarmed clock
+  pub left_idle : (path : Bool) → length (in_flight s) ≤ 0 → (state : Sender) → state ≡ timed_at s None clock
       → ◌≡◌ {A = Outcome} (record { says = values (0 ∷ []); state = state; lent = [] }) (Left path)
   left_idle true h state e = let n = nothing (in_flight s) h in rw (e, n) (rw (take-nil {A = ℕ} s.window))
   left_idle false h state e = let n = nothing (in_flight s) h in rw (e, n)
@@ -117,7 +109,7 @@ module _ (s : Sender) (clock : ℕ) where
   module _ (some : 0 < length (in_flight s)) where
     -- none expired, or no new path
     pub left_later : (count : ℕ) → count ≡ length (expired_of s clock) → (path : Bool) → (eqb count 0 || not path) ≡ true → (state : Sender)
-        → state ≡ timed_at s (T.At (clock + rto_of s.timing)) clock → ◌≡◌ {A = Outcome} (record { says = values (0 ∷ []); state = state; lent = [] }) (Left path)
+        → state ≡ timed_at s (Some (clock + rto_of s.timing)) clock → ◌≡◌ {A = Outcome} (record { says = values (0 ∷ []); state = state; lent = [] }) (Left path)
     left_later count n true t state e =
         let z : length (expired_of s clock) ≡ 0 = sym n ∙ eqb-true count 0 (or_left (eqb count 0) false refl t) in
         rw (e, lt-leb (length (in_flight s)) 0 some, z)

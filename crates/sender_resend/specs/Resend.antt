@@ -1,25 +1,22 @@
 -- What resend does, whatever it is given: its answer, and what it leaves of the state. Fetch by rank gives the packets.
-use Rattle.std.specs.Prelude.{ℕ, ◌+◌, ◌-◌, Bool, false, ◌||◌, not, List, [], ◌∷◌, leb, ltb, length, take}
+use Rattle.std.specs.Prelude.{ℕ, ◌+◌, ◌-◌, Bool, false, ◌||◌, not, List, [], ◌∷◌, leb, ltb, length, take, Option, Some, None}
 use Rattle.terms.specs.Ladder.{◌when◌else◌}
 use Rattle.terms.specs.Lists.{all}
-use Rattle.terms.specs.Answers.{Said, refusal, values, ◌unless_refused◌else◌}
+use Rattle.terms.specs.Answers.{Said, refusal, values, ◌unless_refused◌else◌, said_of}
 use Rattle.timer.specs.Timer.{rto_of}
 use Rattle.timer.specs.Window.{fallen_of}
-use Rattle.timer.specs.declared.Timing.TheVariants as G
 use Rattle.sender_state.specs.Table.{◌!◌, differs, place_of}
 use Rattle.sender_state.specs.Places.{places_of, stamping, state_of}
 use Rattle.sender_state.specs.Rules.{rules, counts_fit, clock_wrong}
-use Rattle.sender_state.specs.Answers.{Outcome, said_tally}
+use Rattle.sender_state.specs.Answers.{Outcome}
 use Rattle.sender_state.specs.declared.Sender.{Sender}
-use Rattle.sender_state.specs.declared.Timer.{Timer}
-use Rattle.sender_state.specs.declared.Timer.TheVariants as T
 use Rattle.sender_state.specs.Numbers.{numbers_where, marked_with, in_flight}
 use Rattle.sender_resend.specs.declared.Resent.{Resent}
 
 -- the timer is due: armed, and the clock at or past it
-unfoldable pub is_due : Timer → ℕ → Bool
-is_due T.Unarmed clock = false
-is_due (T.At due) clock = leb due clock
+unfoldable pub is_due : Option ℕ → ℕ → Bool
+is_due None clock = false
+is_due (Some due) clock = leb due clock
 
 -- what keeps resend from being done, by document 01's numbers in its order
 unfoldable pub resend_refusal : Sender → ℕ → Said
@@ -57,20 +54,20 @@ abbrev pub is_in : List ℕ → ℕ → Bool
 is_in l n = not (all (differs n) l)
 
 -- a state with another timer and clock
-abbrev pub timed_at : Sender → Timer → ℕ → Sender
+abbrev pub timed_at : Sender → Option ℕ → ℕ → Sender
 timed_at s timer clock = state_of s.chunk s.count s.next.0 s.window s.timing timer clock (places_of s)
 
 -- RTT and RTO become unsampled, the packets of the places that pass get the new clock and are marked as sent more than once, the timer is clock + 9,000, a window above 1 falls by 1
 abbrev pub resent_by : Sender → ℕ → (ℕ → Bool) → Sender
-resent_by s clock again = state_of s.chunk s.count s.next.0 (fallen_of s.window) G.Unsampled (T.At (clock + 9000)) clock (stamping (places_of s) again clock)
+resent_by s clock again = state_of s.chunk s.count s.next.0 (fallen_of s.window) None (Some (clock + 9000)) clock (stamping (places_of s) again clock)
 
 -- the state after it
 abbrev pub resend_leaves : Sender → ℕ → Bool → Sender
 resend_leaves s clock path =
     -- nothing in flight disarms the timer
-    timed_at s T.Unarmed clock when is_empty (in_flight s) else
+    timed_at s None clock when is_empty (in_flight s) else
     -- none expired, or no new path given: timer = clock + RTO
-    timed_at s (T.At (clock + rto_of s.timing)) clock when (is_empty (expired_of s clock) || not path) else
+    timed_at s (Some (clock + rto_of s.timing)) clock when (is_empty (expired_of s clock) || not path) else
     resent_by s clock (λ i. is_in (expired_of s clock) (s.numbers ! i))
 
 -- the count
@@ -89,4 +86,4 @@ resend_of s clock path =
 
 -- results of the code, as an outcome
 abbrev pub resent_out : Resent → Outcome
-resent_out r = record { says = said_tally r.answer; state = r.state; lent = [] }
+resent_out r = record { says = said_of r.answer; state = r.state; lent = [] }

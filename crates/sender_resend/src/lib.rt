@@ -6,18 +6,18 @@ mod again;
 ghost use Rattle.std.specs.Prelude.{◌≡◌};
 ghost use Rattle.sender_resend.specs.Resend.{resend_of, resent_out};
 
-use sender_state::{Sender, Tally};
-use terms::Answer;
+use sender_state::Sender;
+use terms::Refusal;
 
-// The answer stands beside the state after the call, which a refusal leaves as it was.
+// How many packets are to be sent again, beside the state after the call, which a refusal leaves as it was.
 #[derive(Clone, Copy)]
 pub struct Resent {
-    pub answer: Tally,
+    pub answer: Result<u32, Refusal>,
     pub state: Sender,
 }
 
 // The expired packets: how many, and that they are those in flight with numbers below end.
-#[derive(Clone, Copy)]
+#[derive(Clone, Copy, Debug, PartialEq, Eq)]
 pub struct Expired {
     pub count: u32,
     pub end: u32,
@@ -25,15 +25,15 @@ pub struct Expired {
 
 // When the timer is due, tells how many of the lowest packets in flight have expired and are to be sent again, and stamps them with
 // the clock; fetch by rank gives them. Ports `resend`.
+#[tactic(auto, using(crate::proofs::Resending::resend_fair), unfolding(crate::specs::Resend::resend_of))]
 pub fn resend(s: Sender, clock: u64, path: bool) -> Resent
     ensures { resent_out result ≡ resend_of s clock path }
 {
-    let answer = again::judge_resend(s, clock);
-    match answer {
-        Answer::Refused(why) => Resent {
-            answer: Tally::Refused(why),
+    match again::judge_resend(&s, clock) {
+        Err(why) => Resent {
+            answer: Err(why),
             state: s,
         },
-        Answer::Done => again::resend_done(s, clock, path),
+        Ok(()) => again::resend_done(s, clock, path),
     }
 }

@@ -1,35 +1,20 @@
 -- What holds where a packet leaves, and what the calls leave once the answer is known. Assumes nothing.
-use Prim.Native.Nat.{ℕ, ◌+◌, ◌≤◌, ◌<◌}
-use mathlib.Core.Path.{◌≡◌, sym, ◌∙◌, ap}
+use Prim.Native.Nat.{ℕ, ◌≤◌, ◌<◌}
+use mathlib.Core.Path.{◌≡◌}
 use mathlib.Core.Bool.{true, not}
 use mathlib.Core.List.{List, [], ◌∷◌}
 use borrow.Author.Tests.{leb-false, ltb-false, not-false}
 use lib.Dec.{leb, ltb}
 use lib.ListN.{length}
 use Rattle.terms.specs.Lists.{◌at_front_of◌}
-use Rattle.terms.specs.Refusals.{number_of}
-use Rattle.terms.specs.declared.Refusal.{Refusal}
 use Rattle.terms.specs.Answers.{refusal, values}
 use Rattle.terms.proofs.Laws.{past as passed-rung}
-use Rattle.timer.specs.Timer.{rto_of}
-use Rattle.sender_state.specs.Table.{◌!◌, count_of, place_of}
-use Rattle.sender_state.specs.Answers.{Outcome}
+use Rattle.sender_state.specs.Table.{◌!◌, count_of}
 use Rattle.sender_state.specs.Rules.{rules, sizes_fit, clock_wrong}
 use Rattle.sender_state.specs.declared.Sender.{Sender}
-use Rattle.sender_state.specs.Numbers.{waiting, in_flight, size_of, bytes_at, stored_packet}
+use Rattle.sender_state.specs.Numbers.{waiting, size_of, stored_packet}
 use Rattle.sender_state.proofs.Facts.{clock_fair}
-use Rattle.sender_send.specs.Fetch.{fetch_said, Fetches, fetch_of}
-use Rattle.sender_send.specs.Send.{said_sent, send_said, armed, moved, departed, send_of}
-use Rattle.sender_send.specs.declared.Departure.{Departure}
-use Rattle.sender_send.specs.declared.Departure.TheVariants as D
-
--- what fetch leaves, once the answer is known
-module _ (s : Sender) (rank : ℕ) (store output : List ℕ) where
-  pub fetch_made : (size place : ℕ) → fetch_said s rank (length store) (length output) ≡ values (size_of s (in_flight s ! rank) ∷ []) → size ≡ size_of s (in_flight s ! rank)
-      → place ≡ place_of s.numbers (in_flight s ! rank) → (after : List ℕ) → after ≡ bytes_at s.chunk place size store at_front_of output
-      → ◌≡◌ {A = Fetches} (record { says = values (size ∷ []); output = after }) (fetch_of s rank store output)
-  unfolding fetch_of
-  fetch_made size place e f g after h = rw (h, f, g) (simp e)
+use Rattle.sender_send.specs.Send.{send_said, departed, send_of}
 
 -- what holds where a packet leaves
 pub record Leaves (s : Sender) (clock store_length room : ℕ) (given : List ℕ) : Type 0 where
@@ -73,14 +58,3 @@ module _ (s : Sender) (clock : ℕ) (store output : List ℕ) where
       → send_of s clock store output ≡ record { says = values given; state = departed s clock; lent = stored_packet s store (waiting s ! 0) at_front_of output }
   unfolding send_of
   send_done given e = simp e
-
-  module _ (answer : Departure) (judged : said_sent answer ≡ send_said s clock (length store) (length output)) where
-    pub send_kept : (why : Refusal) → answer ≡ D.Refused why → ◌≡◌ {A = Outcome} (record { says = said_sent answer; state = s; lent = output }) (send_of s clock store output)
-    send_kept why is = rw is (sym (send_refused (number_of why) (sym judged ∙ ap said_sent is)))
-
-  pub send_made : (number size place : ℕ) → send_said s clock (length store) (length output) ≡ values (number ∷ size ∷ []) → number ≡ waiting s ! 0
-      → size ≡ size_of s (waiting s ! 0) → place ≡ place_of s.numbers (waiting s ! 0)
-      → (after : List ℕ) → after ≡ bytes_at s.chunk place size store at_front_of output
-      → (state : Sender) → state ≡ moved s place clock (armed s.timer (clock + rto_of s.timing))
-      → ◌≡◌ {A = Outcome} (record { says = values (number ∷ size ∷ []); state = state; lent = after }) (send_of s clock store output)
-  send_made number size place e n z p after a state t = rw (t, a, p, z) (sym (send_done (number ∷ size_of s (waiting s ! 0) ∷ []) (e ∙ rw z)))

@@ -1,85 +1,62 @@
 -- The number at a rank of those that bear a mark, as the code walks to it. Assumes nothing.
-use Prim.Native.Nat.{ℕ, ◌+◌, ◌-◌, ◌≤◌, ◌<◌}
-use mathlib.Core.Path.{◌≡◌, sym, ◌∙◌, ap}
-use mathlib.Core.Bool.{Bool}
-use mathlib.Core.List.{List, []}
-use native.Mathlib.Nat.{add-zero}
+use Prim.Native.Nat.{ℕ, zero, suc, ◌+◌, ◌-◌, ◌≤◌, ◌<◌}
+use mathlib.Core.Path.{◌≡◌, refl, sym, ◌∙◌, ap}
+use mathlib.Core.Bool.{true}
+use mathlib.Core.List.{List, [], ◌∷◌}
 use native.Mathlib.Decide.{dec_lt}
 use native.Mathlib.Omega.{arith}
 use borrow.Author.Tests.{eqb-true}
-use lib.ListN.{length, get_or, drop}
-use lib.Seq.{get_or-drop, drop-drop}
+use lib.ListN.{length, drop, length-drop}
+use lib.Seq.{drop-drop}
+use Rattle.std.specs.Prelude.{Option, Some, None}
+use Rattle.std.specs.List.{slice_get}
+use Rattle.std.proofs.lemmas.Option.{none-some, slice_get_within, slice_get_past, slice_get-get_or, get_or_from_slice_get}
 use Rattle.terms.proofs.Laws.{case}
-use Rattle.sender_state.specs.Steps.{least_of, Tidy}
+use Rattle.sender_state.specs.Numbers.{run, numbers_where, marked_with}
+use Rattle.sender_state.specs.Rules.{rules}
+use Rattle.sender_state.specs.Steps.{lowest_of, Tidy}
 use Rattle.sender_state.specs.Table.{◌!◌, place_of}
 use Rattle.sender_state.specs.declared.Sender.{Sender}
-use Rattle.sender_state.specs.Numbers.{run, numbers_where, marked_with}
-use Rattle.sender_send.specs.Steps.{at_rank}
-use Rattle.sender_state.proofs.Runs.{beyond, get_d_any, run_passes, run_below}
-use Rattle.sender_state.proofs.Search.{place_is, Ahead, ahead}
+use Rattle.sender_state.proofs.Facts.{ruled, packet_in_lem}
+use Rattle.sender_state.proofs.Runs.{beyond, run_passes}
+use Rattle.sender_state.proofs.Search.{place_is, ahead_some, ahead_none}
+use Rattle.sender_send.specs.Steps.{RanksAt}
 
--- the element at a rank, from what is left
-pub rank_none : (l : List ℕ) (k rank : ℕ) → k ≤ rank → drop k l ≡ [] → 4294967295 ≡ get_or l rank 4294967295
-rank_none l k rank h e =
-    let f : k + (rank - k) ≡ rank = omega arith in
-    sym (ap (λ (i : ℕ). get_or l i 4294967295) (sym f) ∙ sym (get_or-drop k l (rank - k) 4294967295) ∙ rw e)
+get_here : (l : List ℕ) (k : ℕ) → slice_get (drop k l) 0 ≡ slice_get l k
+get_here [] zero = refl
+get_here [] (suc k) = refl
+get_here (x ∷ l) zero = refl
+get_here (x ∷ l) (suc k) = get_here l k
 
-module _ (p : ℕ → Bool) (next : ℕ) (l : List ℕ) where
-  pub rank_here : (k low : ℕ) → Ahead p next low (drop k l) → low ≡ get_or l k 4294967295
-  rank_here k low a =
-      case
-      (λ (q : low < 4294967295).
-      let e : get_or (drop k l) 0 4294967295 ≡ low = rw (a.more q) in
-      sym (sym (get_or-drop k l 0 4294967295 ∙ ap (λ (i : ℕ). get_or l i 4294967295) (add-zero k)) ∙ e))
-      (λ (q : low < 4294967295 → ⊥). let e : low ≡ 4294967295 = omega (arith, a.most) in e ∙ rank_none l k k (omega arith) (a.none e))
-      (dec_lt low 4294967295)
+-- the walk up to a rank: from rank k on, the numbers from `from` on are left
+module _ (numbers marks : List ℕ) (wanted next : ℕ) where
+  abbrev all : List ℕ
+  all = numbers_where numbers next (marked_with wanted marks)
 
--- the walk up to a rank: low heads what is left from rank k on
-pub record Walked (numbers marks : List ℕ) (wanted next rank low k : ℕ) : Type 0 where
-  pub far : k ≤ rank
-  pub rest : Ahead (λ n. marked_with wanted marks (place_of numbers n)) next low (drop k (numbers_where numbers next (marked_with wanted marks)))
+  pub record Walking (k from : ℕ) : Type 0 where
+    pub inside : from ≤ next
+    pub rest : drop k all ≡ run (λ n. marked_with wanted marks (place_of numbers n)) from (next - from)
 
-module _ (numbers marks : List ℕ) (wanted next rank : ℕ) where
-  pub walk_start : Tidy numbers marks wanted next → (low : ℕ) → low ≡ least_of numbers marks wanted 0 192 → Walked numbers marks wanted next rank low 0
-  walk_start tidy low e =
-      let z : next - 0 ≡ next = omega arith in
-      record { far = omega arith; rest = rw e (rw z at (ahead numbers marks wanted next tidy 0 (omega arith))) }
+  module _ (tidy : Tidy numbers marks wanted next) (k from : ℕ) (w : Walking k from) where
+    pub walk_more : (n : ℕ) → lowest_of numbers marks wanted from ≡ Some n → Walking (k + 1) (n + 1)
+    walk_more n e =
+        let f = ahead_some numbers marks wanted next tidy from n w.inside e in
+        record { inside = omega (arith, f.below); rest = sym (drop-drop 1 k all) ∙ rw (w.rest, f.more) }
 
-  module _ (low k : ℕ) (w : Walked numbers marks wanted next rank low k) where
-    pub walk_more : Tidy numbers marks wanted next → k < rank → (low ≡ 4294967295 → ⊥) → (after : ℕ) → after ≡ least_of numbers marks wanted (low + 1) 192
-        → Walked numbers marks wanted next rank after (k + 1)
-    walk_more tidy h o after e =
-        let l = numbers_where numbers next (marked_with wanted marks) in
-        let some : low < 4294967295 = omega (arith, w.rest.most, o) in
-        let tail : drop (k + 1) l ≡ run (λ n. marked_with wanted marks (place_of numbers n)) (low + 1) (next - (low + 1)) =
-        sym (drop-drop 1 k l) ∙ rw (w.rest.more some) in
-        record { far = omega arith; rest = rw (e, tail) (ahead numbers marks wanted next tidy (low + 1) (omega (arith, w.rest.below some))) }
+    pub walk_none : (rank : ℕ) → k ≤ rank → lowest_of numbers marks wanted from ≡ None → None ≡ slice_get all rank
+    walk_none rank h e =
+        let z : drop k all ≡ [] = w.rest ∙ ahead_none numbers marks wanted next tidy from e in
+        let l = length-drop k all in
+        let n = ap length z in
+        sym (slice_get_past all rank (omega arith))
 
-    pub walk_none : low ≡ 4294967295 → 4294967295 ≡ get_or (numbers_where numbers next (marked_with wanted marks)) rank 4294967295
-    walk_none e = rank_none (numbers_where numbers next (marked_with wanted marks)) k rank w.far (w.rest.none e)
-
-    pub walk_end : rank ≤ k → low ≡ get_or (numbers_where numbers next (marked_with wanted marks)) rank 4294967295
-    walk_end h =
-        let e : k ≡ rank = omega (arith, w.far) in
-        rank_here (λ n. marked_with wanted marks (place_of numbers n)) next (numbers_where numbers next (marked_with wanted marks)) k low w.rest
-        ∙ ap (λ (i : ℕ). get_or (numbers_where numbers next (marked_with wanted marks)) i 4294967295) e
-
--- the number at a rank: 4,294,967,295 says that there is none
-module _ (numbers : List ℕ) (next : ℕ) (p : ℕ → Bool) (width : next ≤ 4294967295) where
-  pub rank_missing : (rank : ℕ) → at_rank (numbers_where numbers next p) rank ≡ 4294967295 → length (numbers_where numbers next p) ≤ rank
-  rank_missing rank e =
-      case
-      (λ (q : rank < length (numbers_where numbers next p)).
-      absurd (omega (arith, run_below (λ n. p (place_of numbers n)) next 0 rank q, get_d_any (numbers_where numbers next p) rank 0 4294967295 q, e)))
-      (λ (q : rank < length (numbers_where numbers next p) → ⊥). omega arith)
-      (dec_lt rank (length (numbers_where numbers next p)))
-
-  pub rank_inside : (rank : ℕ) → (at_rank (numbers_where numbers next p) rank ≡ 4294967295 → ⊥) → rank < length (numbers_where numbers next p)
-  rank_inside rank n =
-      case
-      (λ (q : rank < length (numbers_where numbers next p)). q)
-      (λ (q : rank < length (numbers_where numbers next p) → ⊥). absurd (n (beyond (numbers_where numbers next p) rank 4294967295 (omega arith))))
-      (dec_lt rank (length (numbers_where numbers next p)))
+    pub walk_end : (rank : ℕ) → k ≡ rank → lowest_of numbers marks wanted from ≡ slice_get all rank
+    walk_end rank h = rw (← h) (go (lowest_of numbers marks wanted from) refl) where
+      go : (o : Option ℕ) → lowest_of numbers marks wanted from ≡ o → lowest_of numbers marks wanted from ≡ slice_get all k
+      go None e = e ∙ walk_none k (omega arith) e
+      go (Some n) e =
+          let f = ahead_some numbers marks wanted next tidy from n w.inside e in
+          e ∙ sym (sym (get_here all k) ∙ rw (w.rest, f.more))
 
 module _ (s : Sender) (row : length s.numbers ≡ 192) (table : length s.marks ≡ 192) (width : s.next.0 ≤ 4294967295) where
   -- what is known of the number at a rank of those that bear a mark
@@ -90,26 +67,44 @@ module _ (s : Sender) (row : length s.numbers ≡ 192) (table : length s.marks �
     pub marked : s.marks ! place_of s.numbers number ≡ wanted
     pub has : s.numbers ! place_of s.numbers number ≡ number
 
-  pub ranked_there : (wanted rank number : ℕ) → 1 ≤ wanted → number ≡ at_rank (numbers_where s.numbers s.next.0 (marked_with wanted s.marks)) rank → (number ≡ 4294967295 → ⊥)
-      → Ranked wanted rank number
-  ranked_there wanted rank number h e n =
-      let l = numbers_where s.numbers s.next.0 (marked_with wanted s.marks) in
-      let q = rank_inside s.numbers s.next.0 (marked_with wanted s.marks) width rank (λ z. n (e ∙ z)) in
-      let i : number ≡ l ! rank = e ∙ get_d_any l rank 4294967295 0 q in
-      let t = run_passes (λ m. marked_with wanted s.marks (place_of s.numbers m)) s.next.0 0 rank q in
-      let m : s.marks ! place_of s.numbers number ≡ wanted = rw i (eqb-true _ _ t) in
-      let inside : place_of s.numbers number < 192 =
+  -- a rank that is inside has its number at a place
+  pub ranked_of : (wanted rank : ℕ) → 1 ≤ wanted → rank < length (numbers_where s.numbers s.next.0 (marked_with wanted s.marks))
+      → Ranked wanted rank (numbers_where s.numbers s.next.0 (marked_with wanted s.marks) ! rank)
+  ranked_of wanted rank h q =
+      let number = numbers_where s.numbers s.next.0 (marked_with wanted s.marks) ! rank in
+      let m = eqb-true (s.marks ! place_of s.numbers number) wanted (run_passes (λ m. marked_with wanted s.marks (place_of s.numbers m)) s.next.0 0 rank q) in
+      let low : place_of s.numbers number < 192 =
       case
       (λ (b : place_of s.numbers number < 192). b)
       (λ (b : place_of s.numbers number < 192 → ⊥). absurd (omega (arith, beyond s.marks (place_of s.numbers number) 0 (omega arith), m)))
       (dec_lt (place_of s.numbers number) 192) in
-      record { inside = q; is = i; place = inside; marked = m; has = place_is s.numbers number (omega arith) }
+      record { inside = q; is = refl; place = low; marked = m; has = place_is s.numbers number (omega arith) }
 
--- a rank that is inside has its number at a place
-pub ranked_of : (s : Sender) (row : length s.numbers ≡ 192) (table : length s.marks ≡ 192) (width : s.next.0 ≤ 4294967295) (wanted rank : ℕ) → 1 ≤ wanted
-    → rank < length (numbers_where s.numbers s.next.0 (marked_with wanted s.marks))
-    → Ranked s row table width wanted rank (numbers_where s.numbers s.next.0 (marked_with wanted s.marks) ! rank)
-ranked_of s row table width wanted rank h q =
-    let l = numbers_where s.numbers s.next.0 (marked_with wanted s.marks) in
-    let b = run_below (λ n. marked_with wanted s.marks (place_of s.numbers n)) s.next.0 0 rank q in
-    ranked_there s row table width wanted rank (l ! rank) h (get_d_any l rank 0 4294967295 q) (λ e. omega arith)
+  -- and so has what the walk finds
+  pub ranks_at : rules s ≡ true → (wanted rank number place : ℕ) → 1 ≤ wanted → slice_get (numbers_where s.numbers s.next.0 (marked_with wanted s.marks)) rank ≡ Some number
+      → place ≡ place_of s.numbers number → RanksAt s wanted rank (record { number = record { 0 = number }; place = place; size = s.lengths ! place })
+  ranks_at keeps wanted rank number place h e f =
+      let l = numbers_where s.numbers s.next.0 (marked_with wanted s.marks) in
+      let q = slice_get_within l rank number e in
+      let is : l ! rank ≡ number = get_or_from_slice_get l rank number 0 e in
+      let r = ranked_of wanted rank h q in
+      let low : place < 192 = rw (f, ← is) r.place in
+      let marked : s.marks ! place ≡ wanted = rw (f, ← is) r.marked in
+      record {
+        inside = q;
+        stands = record {
+          number_is = sym is;
+          place_is = rw (is, f);
+          size_is = rw (is, f);
+          low = low;
+          stored = λ n fits. packet_in_lem s table (ruled s keeps) n place fits low (λ z. omega arith);
+        };
+      }
+
+-- none is at a rank from the length on
+pub ranks_none : (l : List ℕ) (rank : ℕ) → slice_get l rank ≡ None → length l ≤ rank
+ranks_none l rank e =
+    case
+    (λ (q : rank < length l). let z = slice_get-get_or l rank 0 q in absurd (none-some (l ! rank) (sym e ∙ z)))
+    (λ (q : rank < length l → ⊥). omega arith)
+    (dec_lt rank (length l))

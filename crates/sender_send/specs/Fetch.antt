@@ -1,9 +1,9 @@
 -- What fetch does, whatever it is given: its answer, and what it leaves of the output. It changes no state.
-use Rattle.std.specs.Prelude.{ℕ, not, List, [], ◌∷◌, leb, ltb, length}
+use Rattle.std.specs.Prelude.{ℕ, not, List, [], ◌∷◌, leb, ltb, length, Result}
 use Rattle.terms.specs.Ladder.{◌when◌else◌}
 use Rattle.terms.specs.Lists.{◌at_front_of◌}
 use Rattle.terms.specs.Answers.{Said, refusal, values, ◌unless_refused◌else◌, said_of}
-use Rattle.terms.specs.declared.Given.{Given}
+use Rattle.terms.specs.declared.Refusal.{Refusal}
 use Rattle.sender_state.specs.Table.{◌!◌}
 use Rattle.sender_state.specs.Rules.{rules, sizes_fit}
 use Rattle.sender_state.specs.declared.Sender.{Sender}
@@ -37,5 +37,5 @@ fetch_of s rank store output =
     }
 
 -- results of the code, as an outcome
-abbrev pub fetched : Given → List ℕ → Fetches
-fetched g output = record { says = said_of g; output = output }
+abbrev pub fetched : Result ℕ Refusal → List ℕ → Fetches
+fetched answer output = record { says = said_of answer; output = output }

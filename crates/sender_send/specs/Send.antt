@@ -1,26 +1,22 @@
 -- What send does, whatever it is given: its answer, and what it leaves of the state and of the output.
-use Rattle.std.specs.Prelude.{ℕ, ◌+◌, not, List, [], ◌∷◌, leb, ltb, length}
+use Rattle.std.specs.Prelude.{ℕ, ◌+◌, not, List, [], ◌∷◌, leb, ltb, length, Option, Some, None, Result}
 use Rattle.terms.specs.Ladder.{◌when◌else◌}
 use Rattle.terms.specs.Lists.{◌at_front_of◌}
-use Rattle.terms.specs.Refusals.{number_of}
-use Rattle.terms.specs.Answers.{Said, refusal, values, ◌unless_refused◌else◌}
+use Rattle.terms.specs.declared.Refusal.{Refusal}
+use Rattle.terms.specs.Answers.{Said, refusal, values, ◌unless_refused◌else◌, told}
 use Rattle.timer.specs.Timer.{rto_of}
 use Rattle.sender_state.specs.Table.{◌!◌, count_of, place_of}
 use Rattle.sender_state.specs.Places.{places_of, departing, state_of}
 use Rattle.sender_state.specs.Rules.{rules, sizes_fit, clock_wrong}
 use Rattle.sender_state.specs.Answers.{Outcome}
 use Rattle.sender_state.specs.declared.Sender.{Sender}
-use Rattle.sender_state.specs.declared.Timer.{Timer}
-use Rattle.sender_state.specs.declared.Timer.TheVariants as T
 use Rattle.sender_state.specs.Numbers.{waiting, size_of, stored_packet}
 use Rattle.sender_send.specs.declared.Departure.{Departure}
-use Rattle.sender_send.specs.declared.Departure.TheVariants as D
 use Rattle.sender_send.specs.declared.Sent.{Sent}
 
 -- send gives the number and the length
-abbrev pub said_sent : Departure → Said
-said_sent (D.Packet number size) = values (number.0 ∷ size ∷ [])
-said_sent (D.Refused why) = refusal (number_of why)
+abbrev pub said_sent : Result Departure Refusal → Said
+said_sent answer = told (λ packet. packet.number.0 ∷ packet.size ∷ []) answer
 
 -- the answer, by document 01's numbers in its order
 unfoldable pub send_said : Sender → ℕ → ℕ → ℕ → Said
@@ -40,12 +36,12 @@ send_said s clock store_length room =
     values ((waiting s ! 0) ∷ size_of s (waiting s ! 0) ∷ [])
 
 -- arms the timer if unarmed
-unfoldable pub armed : Timer → ℕ → Timer
-armed T.Unarmed due = T.At due
-armed (T.At at₀) due = T.At at₀
+unfoldable pub armed : Option ℕ → ℕ → Option ℕ
+armed None due = Some due
+armed (Some at₀) due = Some at₀
 
 -- a state with the packet of a place in flight since the clock
-abbrev pub moved : Sender → ℕ → ℕ → Timer → Sender
+abbrev pub moved : Sender → ℕ → ℕ → Option ℕ → Sender
 moved s place clock timer = state_of s.chunk s.count s.next.0 s.window s.timing timer clock (departing (places_of s) place clock)
 
 -- the lowest waiting number moves in flight, the clock is noted, and the timer armed at clock plus RTO if unarmed

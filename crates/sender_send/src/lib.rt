@@ -10,69 +10,73 @@ ghost use Rattle.sender_send.specs.Fetch.{fetch_of, fetched};
 ghost use Rattle.sender_send.specs.Send.{send_of, sent_out};
 
 use sender_state::Sender;
-use terms::{Given, Refusal, SeqNo};
+use terms::{Refusal, SeqNo};
+use timer::Sampled;
 
-// What send answers: the packet's number and length.
-#[derive(Clone, Copy)]
-pub enum Departure {
-    Packet { number: SeqNo, size: usize },
-    Refused(Refusal),
+// The packet that left: its number and its length.
+#[derive(Clone, Copy, Debug, PartialEq, Eq)]
+pub struct Departure {
+    pub number: SeqNo,
+    pub size: usize,
 }
 
-// The answer stands beside the state after the call, which a refusal leaves as it was.
+// What send answers, beside the state after the call, which a refusal leaves as it was.
 #[derive(Clone, Copy)]
 pub struct Sent {
-    pub answer: Departure,
+    pub answer: Result<Departure, Refusal>,
     pub state: Sender,
+}
+
+// A packet as the table has it: its number, its place, and its length.
+#[derive(Clone, Copy, Debug, PartialEq, Eq)]
+pub struct Packet {
+    pub number: SeqNo,
+    pub place: usize,
+    pub size: usize,
 }
 
 // Copies out the packet at a rank of those in flight, 0 being the lowest number. Stands for the sending in `resend`: the host asks
 // for as many as resend told.
-pub fn fetch(s: Sender, rank: u32, store: &[u8], output: &mut [u8]) -> Given
-    ensures { fetched result output.new ≡ fetch_of s rank store.now output.old }
+#[tactic(auto, unfolding(crate::specs::Fetch::fetch_said, crate::specs::Fetch::fetch_of))]
+pub fn fetch(s: &Sender, rank: u32, store: &[u8], output: &mut [u8]) -> Result<usize, Refusal>
+    ensures { fetched result output.new ≡ fetch_of s.now rank store.now output.old }
 {
-    let chunk = s.chunk;
-    let count = s.count;
-    let next = s.next.0;
     if !sender_check::valid(s) {
-        return Given::Refused(Refusal::StateBroken);
+        return Err(Refusal::StateBroken);
     }
-    if !sender_state::sizes_fit(chunk, count, store.len()) {
-        return Given::Refused(Refusal::SizeWrong);
+    if !sender_state::sizes_fit(s.chunk, s.count, store.len()) {
+        return Err(Refusal::SizeWrong);
     }
-    let number = table::ranked(&s.numbers, &s.marks, 2, rank, next);
-    if number == 4294967295 {
-        return Given::Refused(Refusal::NothingThere);
+    let Some(packet) = table::ranked(s, 2, rank) else {
+        return Err(Refusal::NothingThere);
+    };
+    if packet.size > output.len() {
+        return Err(Refusal::OutputShort);
     }
-    let at = sender_state::place_of(&s.numbers, number);
-    let size = s.lengths[at] as usize;
-    if size > output.len() {
-        return Given::Refused(Refusal::OutputShort);
-    }
-    table::put_packet(chunk, at, size, store, output);
-    Given::Bytes(size)
+    table::put(packet, s.chunk, store, output);
+    Ok(packet.size)
 }
 
 // Moves the lowest waiting packet in flight and copies it out. Ports one turn of the sending loop of `poll`, mended: the host calls
 // once for each packet that it can take.
+#[tactic(auto, using(timer::proofs::Laws::rto_most), unfolding(crate::specs::Send::send_of, crate::specs::Send::armed))]
 pub fn send(s: Sender, clock: u64, store: &[u8], output: &mut [u8]) -> Sent
     ensures { sent_out result output.new ≡ send_of s clock store.now output.old }
 {
-    let answer = going::judge_send(s, clock, store.len(), output.len());
-    match answer {
-        Departure::Refused(_) => Sent {
-            answer: answer,
+    match going::judge_send(&s, clock, store.len(), output.len()) {
+        Err(why) => Sent {
+            answer: Err(why),
             state: s,
         },
-        Departure::Packet { number, size } => {
-            let at = sender_state::place_of(&s.numbers, number.0);
-            table::put_packet(s.chunk, at, size, store, output);
-            let timing = s.timing;
-            let timer = going::arm(s.timer, clock + timing.rto());
-            let after = going::departs(s, at, clock, timer);
+        Ok(packet) => {
+            table::put(packet, s.chunk, store, output);
+            let due = clock + Sampled::rto(s.timing);
             Sent {
-                answer: answer,
-                state: after,
+                answer: Ok(Departure {
+                    number: packet.number,
+                    size: packet.size,
+                }),
+                state: going::departs(s, packet.place, clock, due),
             }
         }
     }

@@ -1,5 +1,5 @@
 -- Any two results that a promise allows are equal: answer, state and every lent byte. Assumes nothing.
-use Prim.Native.Nat.{ℕ, min}
+use Prim.Native.Nat.{ℕ}
 use mathlib.Core.Path.{◌≡◌, ap}
 use mathlib.Core.Bool.{Bool}
 use mathlib.Core.List.{List}
@@ -7,16 +7,14 @@ use lib.ListN.{length}
 use Rattle.terms.specs.declared.SeqNo.{SeqNo}
 use Rattle.terms.proofs.Determined.{determined, said_one}
 use Rattle.terms.specs.Lists.{all}
-use Rattle.sender_state.specs.Steps.{least_of}
-use Rattle.sender_state.specs.Table.{differs, count_of, place_of}
+use Rattle.sender_state.specs.Steps.{lowest_of}
+use Rattle.sender_state.specs.Numbers.{marked_with}
+use Rattle.sender_state.specs.Table.{differs, count_of, place_of, replaced}
 use Rattle.sender_state.specs.Rules.{counts_fit, sizes_fit, clock_wrong}
-use Rattle.sender_state.specs.Answers.{Outcome, said_tally}
+use Rattle.sender_state.specs.Answers.{Outcome}
 use Rattle.sender_state.specs.Start.{start_of, started}
 use Rattle.sender_state.specs.declared.Started.{Started}
-use native.Mathlib.Omega.{arith}
-use Rattle.terms.proofs.Numbers.{number_one}
-use Rattle.sender_state.specs.declared.Tally.{Tally}
-use Rattle.sender_state.specs.declared.Tally.TheVariants as Y
+use Rattle.std.specs.Prelude.{Option}
 
 pub start_determined : (first : SeqNo) (chunk count : ℕ) (store : List ℕ) (a b : Started) → started a ≡ start_of first chunk count (length store)
     → started b ≡ start_of first chunk count (length store) → a ≡ b
@@ -36,21 +34,14 @@ count_of_determined marks wanted a b p q = determined p q
 pub place_of_determined : (numbers : List ℕ) (number a b : ℕ) → a ≡ place_of numbers number → b ≡ place_of numbers number → a ≡ b
 place_of_determined numbers number a b p q = determined p q
 
-pub least_determined : (numbers marks : List ℕ) (wanted from a b : ℕ) → a ≡ least_of numbers marks wanted from 192 → b ≡ least_of numbers marks wanted from 192 → a ≡ b
+pub least_determined : (numbers marks : List ℕ) (wanted from : ℕ) (a b : Option ℕ) → a ≡ lowest_of numbers marks wanted from → b ≡ lowest_of numbers marks wanted from → a ≡ b
 least_determined numbers marks wanted from a b p q = determined p q
 
 pub absent_determined : (list : List ℕ) (x : ℕ) (a b : Bool) → a ≡ all (differs x) list → b ≡ all (differs x) list → a ≡ b
 absent_determined list x a b p q = determined p q
 
--- document 01's number and count leave one answer
-pub tally_one : (a b : Tally) → said_tally a ≡ said_tally b → a ≡ b
-tally_one (Y.Count m) (Y.Count n) e = ap Y.Count (cc)
-tally_one (Y.Count m) (Y.Refused y) e = let z : ◌≡◌ {A = ℕ} 0 1 = cc in absurd (omega arith)
-tally_one (Y.Refused x) (Y.Count n) e = let z : ◌≡◌ {A = ℕ} 0 1 = cc in absurd (omega arith)
-tally_one (Y.Refused x) (Y.Refused y) e = ap Y.Refused (number_one x y (cc))
-
 pub clock_wrong_determined : (last clock : ℕ) (a b : Bool) → a ≡ clock_wrong last clock → b ≡ clock_wrong last clock → a ≡ b
 clock_wrong_determined last clock a b p q = determined p q
 
-pub smaller_determined : (a b x y : ℕ) → x ≡ min a b → y ≡ min a b → x ≡ y
-smaller_determined a b x y p q = determined p q
+pub replace_determined : {A : Type 0} (list : List A) (flags : List ℕ) (value : A) (a b : List A) → a ≡ replaced value (marked_with 1 flags) 0 list → b ≡ replaced value (marked_with 1 flags) 0 list → a ≡ b
+replace_determined list flags value a b p q = determined p q

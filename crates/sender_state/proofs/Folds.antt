@@ -1,18 +1,24 @@
 -- The loops over the table, for any test: what one more turn adds to each definition. Assumes nothing.
 use Prim.Native.Nat.{ℕ, zero, suc, ◌+◌, ◌≤◌, ◌<◌, min}
 use mathlib.Core.Path.{◌≡◌, refl, sym, ◌∙◌, subst}
-use mathlib.Core.Bool.{Bool, true, false}
+use mathlib.Core.Bool.{Bool, true, false, cond}
 use mathlib.Core.List.{List, [], ◌∷◌, ◌++◌}
 use native.Mathlib.Nat.{zero-add, not-suc-le-zero}
 use native.Mathlib.Numerals.{add-one}
 use native.Mathlib.Decide.{ℕ_discrete, dec_lt}
 use native.Mathlib.Omega.{arith}
-use borrow.Author.Tests.{eq-eqb, ne_eqb, lt-ltb, le-ltb}
-use lib.Dec.{eqb}
-use lib.ListN.{length, get_or, take, drop}
-use lib.Seq.{take-suc, drop-cons, drop-length}
+use borrow.Author.Tests.{eq-eqb, ne_eqb, lt-ltb, le-ltb, ltb-false, eqb-true, eqb-false}
+use lib.Dec.{eqb, ltb}
+use lib.ListN.{length, get_or, take}
+use lib.Seq.{take-suc}
+use Rattle.std.specs.Prelude.{Some, None}
+use Rattle.std.specs.List.{position, position_or_len}
+use Rattle.std.specs.Option.{unwrap_or}
+use Rattle.std.proofs.lemmas.List.Recursion.{is_position_or_len}
+use Rattle.std.proofs.lemmas.List.Sums.{prefix_len-le-length}
+use Rattle.terms.specs.Ladder.{◌when◌else◌}
 use Rattle.terms.proofs.Laws.{case}
-use Rattle.sender_state.specs.Steps.{candidate_of, least_of}
+use Rattle.sender_state.specs.Steps.{candidate_of, least_of, lowest_of}
 use Rattle.sender_state.specs.Table.{◌!◌, one_if, count_of, place_of}
 
 -- how many are equal to x
@@ -23,16 +29,22 @@ count_append x (y ∷ a) b = rw (count_append x a b) (omega arith)
 pub count_more : (x : ℕ) (l : List ℕ) (i : ℕ) → i < length l → count_of x (take (i + 1) l) ≡ count_of x (take i l) + one_if (eqb (get_or l i 0) x)
 count_more x l i h = rw (add-one, take-suc l i 0 h, count_append) (omega arith)
 
--- the place of a number: not yet found among the first i
-pub place_next : (l : List ℕ) (n i : ℕ) → i < length l → (get_or l i 0 ≡ n → ⊥) → place_of l n ≡ i + place_of (drop i l) n → place_of l n ≡ i + 1 + place_of (drop (i + 1) l) n
-place_next l n i h o e =
-    e ∙ rw (add-one, drop-cons l i 0 h, ne_eqb _ _ o) (omega arith)
+-- the place of a number, as the library searches for it
+place_as : (l : List ℕ) (n : ℕ) → place_of l n ≡ position_or_len (λ x. eqb x n) l
+place_as l n = is_position_or_len (λ l. place_of l n) (λ x. eqb x n) refl (λ x l. either (eqb x n) (place_of l n)) l
+  where
+    either : (b : Bool) (k : ℕ) → (0 when b else suc k) ≡ cond b 0 (1 + k)
+    either true k = refl
+    either false k = omega arith
 
-pub place_here : (l : List ℕ) (n i : ℕ) → i < length l → get_or l i 0 ≡ n → place_of l n ≡ i + place_of (drop i l) n → i ≡ place_of l n
-place_here l n i h e f = sym (f ∙ rw (drop-cons l i 0 h, eq-eqb _ _ e) (omega arith))
+search_inside : (k m : ℕ) → k ≤ m → (b : Bool) → ltb k m ≡ b → unwrap_or (cond b (Some k) None) m ≡ k
+search_inside k m h true e = refl
+search_inside k m h false e = omega (arith, h, ltb-false k m e)
 
-pub place_none : (l : List ℕ) (n i : ℕ) → i ≡ length l → place_of l n ≡ i + place_of (drop i l) n → i ≡ place_of l n
-place_none l n i e f = sym (f ∙ rw (e, drop-length l) (omega arith))
+pub place_position : (l : List ℕ) (n : ℕ) → unwrap_or (position (λ x. eqb x n) l) (length l) ≡ place_of l n
+place_position l n =
+    let k = position_or_len (λ x. eqb x n) l in
+    rw (place_as l n) (search_inside k (length l) (prefix_len-le-length _ l) (ltb k (length l)) refl)
 
 -- the lowest number sought
 pub least_more : (numbers marks : List ℕ) (wanted from i low one : ℕ) → low ≡ least_of numbers marks wanted from i
@@ -44,6 +56,16 @@ least_more numbers marks wanted from i low one e f = rw (add-one, e, f)
 pub least_none : (numbers marks : List ℕ) (wanted from : ℕ) → 4294967295 ≡ least_of numbers marks wanted from 0
 unfolding least_of
 least_none numbers marks wanted from = refl
+
+-- among all the places, and nothing where that is 4,294,967,295
+module _ (numbers marks : List ℕ) (wanted from low i : ℕ) (e : low ≡ least_of numbers marks wanted from i) (all : i ≡ 192) where
+  pub lowest_none : low ≡ 4294967295 → None ≡ lowest_of numbers marks wanted from
+  unfolding lowest_of
+  lowest_none h = let f : least_of numbers marks wanted from 192 ≡ 4294967295 = rw all at (sym e ∙ h) in rw f
+
+  pub lowest_some : (low ≡ 4294967295 → ⊥) → Some low ≡ lowest_of numbers marks wanted from
+  unfolding lowest_of
+  lowest_some h = let f : least_of numbers marks wanted from 192 ≡ low = sym (rw all at e) in rw (f, ne_eqb low 4294967295 h)
 
 pub one_most : (b : Bool) → one_if b ≤ 1
 one_most true = omega arith
@@ -101,3 +123,26 @@ module _ (numbers marks : List ℕ) (wanted from : ℕ) where
       let f = least_there n (omega arith) in
       record { place = f.place; inside = omega (arith, f.inside); marked = f.marked; high = f.high; is = omega (arith, f.is) })
       (dec_lt one (least_of numbers marks wanted from n))
+
+  -- and among all the places
+  lowest_cases : (b : Bool) → eqb (least_of numbers marks wanted from 192) 4294967295 ≡ b → lowest_of numbers marks wanted from ≡ cond b None (Some (least_of numbers marks wanted from 192))
+  unfolding lowest_of
+  lowest_cases true e = rw e
+  lowest_cases false e = rw e
+
+  pub lowest_is : (low : ℕ) → lowest_of numbers marks wanted from ≡ Some low → (least_of numbers marks wanted from 192 ≡ low) × (low < 4294967295)
+  lowest_is low h = go (eqb (least_of numbers marks wanted from 192) 4294967295) refl
+    where
+      go : (b : Bool) → eqb (least_of numbers marks wanted from 192) 4294967295 ≡ b → (least_of numbers marks wanted from 192 ≡ low) × (low < 4294967295)
+      go true e = let z = lowest_cases true e in cc
+      go false e =
+          let z = lowest_cases false e in
+          let is : least_of numbers marks wanted from 192 ≡ low = cc in
+          (is, omega (arith, is, least_most 192, eqb-false (least_of numbers marks wanted from 192) 4294967295 e))
+
+  pub lowest_not : lowest_of numbers marks wanted from ≡ None → least_of numbers marks wanted from 192 ≡ 4294967295
+  lowest_not h = go (eqb (least_of numbers marks wanted from 192) 4294967295) refl
+    where
+      go : (b : Bool) → eqb (least_of numbers marks wanted from 192) 4294967295 ≡ b → least_of numbers marks wanted from 192 ≡ 4294967295
+      go true e = eqb-true _ _ e
+      go false e = let z = lowest_cases false e in cc

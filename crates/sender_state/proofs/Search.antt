@@ -6,13 +6,14 @@ use mathlib.Core.List.{List, [], ◌∷◌}
 use native.Mathlib.Nat.{not-suc-le-zero, le_of_suc-le-suc}
 use native.Mathlib.Decide.{ℕ_discrete, dec_lt}
 use native.Mathlib.Omega.{arith}
-use borrow.Author.Tests.{eq-eqb, ne_eqb, eqb-true, lt-ltb, le-ltb}
+use borrow.Author.Tests.{eq-eqb, ne_eqb, eqb-true}
 use lib.ListN.{length}
+use Rattle.std.specs.Prelude.{Some, None}
 use Rattle.terms.proofs.Laws.{case}
-use Rattle.sender_state.specs.Steps.{candidate_of, least_of, Tidy}
+use Rattle.sender_state.specs.Steps.{least_of, lowest_of, Tidy}
 use Rattle.sender_state.specs.Table.{◌!◌, place_of}
 use Rattle.sender_state.specs.declared.Sender.{Sender}
-use Rattle.sender_state.proofs.Folds.{least_at, least_there, least_most}
+use Rattle.sender_state.proofs.Folds.{Found, least_at, least_there, lowest_is, lowest_not}
 use Rattle.sender_state.proofs.Runs.{beyond, run_from, run_none, run_head}
 use Rattle.sender_state.proofs.Facts.{Ruled}
 use Rattle.sender_state.specs.Numbers.{run, marked_with}
@@ -43,13 +44,12 @@ place_most (x ∷ l) n =
     (λ (o : x ≡ n → ⊥). rw (ne_eqb x n o) (omega (arith, place_most l n)))
     (ℕ_discrete x n)
 
--- what is left of a run, from the lowest of its numbers: nothing where that is 4,294,967,295
-pub record Ahead (p : ℕ → Bool) (next low : ℕ) (l : List ℕ) : Type 0 where
-  pub most : low ≤ 4294967295
-  pub none : low ≡ 4294967295 → l ≡ []
-  pub more : low < 4294967295 → l ≡ low ∷ run p (low + 1) (next - (low + 1))
-  pub below : low < 4294967295 → low < next
-  pub passes : low < 4294967295 → p low ≡ true
+-- the lowest of the numbers that are left of a run, from `from` on
+pub record First (p : ℕ → Bool) (next from low : ℕ) : Type 0 where
+  pub more : run p from (next - from) ≡ low ∷ run p (low + 1) (next - (low + 1))
+  pub high : from ≤ low
+  pub below : low < next
+  pub passes : p low ≡ true
 
 module _ (numbers marks : List ℕ) (wanted next : ℕ) (tidy : Tidy numbers marks wanted next) where
   -- a number with the mark stands at its place
@@ -66,58 +66,47 @@ module _ (numbers marks : List ℕ) (wanted next : ℕ) (tidy : Tidy numbers mar
   abbrev bears : ℕ → Bool
   bears n = marked_with wanted marks (place_of numbers n)
 
-  -- a number with the mark lies at or above the lowest
-  pub found : (from n : ℕ) → from ≤ n → bears n ≡ true → least_of numbers marks wanted from 192 ≤ n
-  found from n a t =
-      let e = eqb-true (marks ! place_of numbers n) wanted t in
-      let inside : place_of numbers n < 192 =
+  -- a number with the mark stands within the table
+  pub placed : (n : ℕ) → bears n ≡ true → place_of numbers n < 192
+  placed n t =
       case
       (λ (q : place_of numbers n < 192). q)
-      (λ (q : place_of numbers n < 192 → ⊥). absurd (omega (arith, beyond marks (place_of numbers n) 0 (omega (arith, tidy.table)), tidy.mark, e)))
-      (dec_lt (place_of numbers n) 192) in
-      let is = place_is numbers n (omega (arith, tidy.row)) in
-      omega (arith, least_at numbers marks wanted from 192 (place_of numbers n) inside e (omega (arith, is)), is)
+      (λ (q : place_of numbers n < 192 → ⊥).
+      absurd (omega (arith, beyond marks (place_of numbers n) 0 (omega (arith, tidy.table)), tidy.mark, eqb-true (marks ! place_of numbers n) wanted t)))
+      (dec_lt (place_of numbers n) 192)
 
+  -- and lies at or above the lowest
+  pub found : (from n : ℕ) → from ≤ n → bears n ≡ true → least_of numbers marks wanted from 192 ≤ n
+  found from n a t =
+      let is = place_is numbers n (omega (arith, tidy.row, placed n t)) in
+      omega (arith, least_at numbers marks wanted from 192 (place_of numbers n) (placed n t) (eqb-true _ _ t) (omega (arith, is)), is)
+
+  -- and below the lowest no number bears it
   unseen : (from n : ℕ) → from ≤ n → n < least_of numbers marks wanted from 192 → bears n ≡ false
   unseen from n a b = go (bears n) refl where
     go : (t : Bool) → bears n ≡ t → bears n ≡ false
     go true e = absurd (omega (arith, found from n a e))
     go false e = e
 
-  pub ahead : (from : ℕ) → from ≤ next → Ahead (λ n. marked_with wanted marks (place_of numbers n)) next (least_of numbers marks wanted from 192) (run (λ n. marked_with wanted marks (place_of numbers n)) from (next - from))
-  ahead from a =
-      let low = least_of numbers marks wanted from 192 in
-      let there : low < 4294967295 → (low < next) × (bears low ≡ true) × (from ≤ low) =
-      λ h.
-      let f = least_there numbers marks wanted from 192 h in
-      let e = stored f.place f.inside f.marked in
-      let g : place_of numbers low ≡ f.place = ap (place_of numbers) (sym f.is) ∙ e in
-      (omega (arith, tidy.low f.place f.inside f.marked, f.is), rw g (eq-eqb _ _ f.marked), omega (arith, f.high, f.is)) in
+  -- what a search finds is the first of what is left, and where it finds nothing, nothing is left
+  pub ahead_some : (from low : ℕ) → from ≤ next → lowest_of numbers marks wanted from ≡ Some low → First (λ n. marked_with wanted marks (place_of numbers n)) next from low
+  ahead_some from low a e =
+      let l = lowest_is numbers marks wanted from low e in
+      let f : Found numbers marks wanted from 192 low = rw l.0 at (least_there numbers marks wanted from 192 (omega (arith, l.0, l.1))) in
+      let g : place_of numbers low ≡ f.place = ap (place_of numbers) (sym f.is) ∙ stored f.place f.inside f.marked in
+      let below : low < next = omega (arith, tidy.low f.place f.inside f.marked, f.is) in
+      let passes : bears low ≡ true = rw g (eq-eqb _ _ f.marked) in
       record {
-        most = least_most numbers marks wanted from 192;
-        none = λ e. run_none bears from next (λ m x y. unseen from m x (omega (arith, tidy.width)));
-        more = λ h. run_from bears from low next (there h).2 (omega (arith, (there h).0)) (unseen from) ∙ run_head bears low next (there h).0 (there h).1;
-        below = λ h. (there h).0;
-        passes = λ h. (there h).1;
+        more =
+            run_from bears from low next (omega (arith, f.high, f.is)) (omega arith) (λ m x y. unseen from m x (omega (arith, l.0)))
+            ∙ run_head bears low next below passes;
+        high = omega (arith, f.high, f.is);
+        below = below;
+        passes = passes;
       }
 
--- a search from a number on finds none below it
-candidate_low : (number mark wanted from : ℕ) → from ≤ 4294967295 → from ≤ candidate_of number mark wanted from
-unfolding candidate_of
-candidate_low number mark wanted from h =
-    case
-    (λ (e : mark ≡ wanted).
-    case
-    (λ (q : number < from). rw (eq-eqb _ _ e, lt-ltb _ _ q) h)
-    (λ (q : number < from → ⊥). let k : from ≤ number = omega arith in rw (eq-eqb _ _ e, le-ltb _ _ k) k)
-    (dec_lt number from))
-    (λ (o : mark ≡ wanted → ⊥). rw (ne_eqb _ _ o) h)
-    (ℕ_discrete mark wanted)
-
-pub least_low : (numbers marks : List ℕ) (wanted from n : ℕ) → from ≤ 4294967295 → from ≤ least_of numbers marks wanted from n
-unfolding least_of
-least_low numbers marks wanted from zero h = h
-least_low numbers marks wanted from (suc n) h = omega (arith, least_low numbers marks wanted from n h, candidate_low (numbers ! n) (marks ! n) wanted from h)
+  pub ahead_none : (from : ℕ) → lowest_of numbers marks wanted from ≡ None → run (λ n. marked_with wanted marks (place_of numbers n)) from (next - from) ≡ []
+  ahead_none from e = run_none bears from next (λ m x y. unseen from m x (omega (arith, tidy.width, lowest_not numbers marks wanted from e)))
 
 -- a state that keeps the rules is tidy, for each mark that is not 0
 module _ (s : Sender) (row : length s.numbers ≡ 192) (table : length s.marks ≡ 192) (width : s.next.0 ≤ 4294967295) where

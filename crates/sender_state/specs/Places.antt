@@ -1,10 +1,9 @@
 -- The table of a state: its places, list by list, and the ways in which a call changes it. A list that a way does not name stays, so a field of a place is
 -- one line here beside its rule and the calls that set it.
-use Rattle.std.specs.Prelude.{ℕ, Bool, List, set, replicate}
-use Rattle.timer.specs.declared.Timing.{Timing}
+use Rattle.std.specs.Prelude.{ℕ, Bool, List, set, replicate, Option}
+use Rattle.timer.specs.declared.Sampled.{Sampled}
 use Rattle.sender_state.specs.Table.{◌!◌, replaced}
 use Rattle.sender_state.specs.declared.Place.{Place}
-use Rattle.sender_state.specs.declared.Timer.{Timer}
 use Rattle.sender_state.specs.declared.Sender.{Sender}
 
 -- of each place the number, the length and the send time of its packet, whether that was sent more than once, and the mark
@@ -67,7 +66,7 @@ freeing p gone = record {
 }
 
 -- a state from its numbers and its places
-abbrev pub state_of : ℕ → ℕ → ℕ → ℕ → Timing → Timer → ℕ → Places → Sender
+abbrev pub state_of : ℕ → ℕ → ℕ → ℕ → Option Sampled → Option ℕ → ℕ → Places → Sender
 state_of chunk count next window timing timer clock p = record {
   chunk = chunk;
   count = count;

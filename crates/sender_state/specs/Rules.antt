@@ -1,13 +1,11 @@
 -- What a sender's state may be, and what sizes fit it: document 01, "Sender". Sums are not cut to 32 bits.
-use Rattle.std.specs.Prelude.{ℕ, ◌+◌, ◌*◌, Bool, true, ◌&&◌, ◌||◌, not, leb, ltb, eqb}
+use Rattle.std.specs.Prelude.{ℕ, ◌+◌, ◌*◌, Bool, true, ◌&&◌, ◌||◌, not, leb, ltb, eqb, Option, Some, None}
 use Rattle.terms.specs.Ladder.{◌and◌}
 use Rattle.terms.specs.Lists.{each}
 use Rattle.timer.specs.Timer.{timing_fits}
 use Rattle.sender_state.specs.Table.{◌unless◌, is_free, is_waiting, is_flying, count_of}
 use Rattle.sender_state.specs.Places.{place_at}
 use Rattle.sender_state.specs.declared.Place.{Place}
-use Rattle.sender_state.specs.declared.Timer.{Timer}
-use Rattle.sender_state.specs.declared.Timer.TheVariants as T
 use Rattle.sender_state.specs.declared.Sender.{Sender}
 
 -- a test at each place, by its index
@@ -52,9 +50,9 @@ abbrev pub known_values : Place → Bool
 known_values p = leb p.mark 2 && leb p.resent 1
 
 -- an armed timer is at most 60,000 past the last clock; it may lie before it
-unfoldable pub timer_fits : Timer → ℕ → Bool
-timer_fits T.Unarmed clock = true
-timer_fits (T.At due) clock = leb due (clock + 60000)
+unfoldable pub timer_fits : Option ℕ → ℕ → Bool
+timer_fits None clock = true
+timer_fits (Some due) clock = leb due (clock + 60000)
 
 -- the state rules, in document 01's order, and document 02's; the sizes are judged as they stand, whatever they are
 unfoldable pub rules : Sender → Bool

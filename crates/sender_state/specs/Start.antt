@@ -1,13 +1,11 @@
 -- What start does, whatever it is given.
-use Rattle.std.specs.Prelude.{ℕ, not, [], eqb}
+use Rattle.std.specs.Prelude.{ℕ, not, [], eqb, None}
 use Rattle.terms.specs.declared.SeqNo.{SeqNo}
 use Rattle.terms.specs.Ladder.{◌when◌else◌}
-use Rattle.timer.specs.declared.Timing.TheVariants as G
 use Rattle.terms.specs.Answers.{Said, refusal, values, ◌unless_refused◌else◌, said}
 use Rattle.sender_state.specs.Answers.{Outcome}
 use Rattle.sender_state.specs.Places.{all_free, state_of}
 use Rattle.sender_state.specs.Rules.{sizes_fit}
-use Rattle.sender_state.specs.declared.Timer.TheVariants as T
 use Rattle.sender_state.specs.declared.Sender.{Sender}
 use Rattle.sender_state.specs.declared.Started.{Started}
 
@@ -23,7 +21,7 @@ start_said first chunk count store_length =
 -- window 1, nothing stored, timer unarmed, last clock 0
 abbrev pub nothing_stored : ℕ → ℕ → ℕ → Sender
 nothing_stored chunk count next =
-    state_of chunk count next 1 G.Unsampled T.Unarmed 0 all_free
+    state_of chunk count next 1 None None 0 all_free
 
 -- what stands beside a refused start: a state whose next is 0, so that every later call refuses it with 11
 abbrev pub unusable : Sender

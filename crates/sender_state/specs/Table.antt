@@ -41,6 +41,6 @@ abbrev pub differs : ℕ → ℕ → Bool
 differs x y = not (eqb y x)
 
 -- a list with a value in each place that passes, counted from i
-unfoldable pub replaced : ℕ → (ℕ → Bool) → ℕ → List ℕ → List ℕ
+unfoldable pub replaced : {A : Type 0} → A → (ℕ → Bool) → ℕ → List A → List A
 replaced value p i [] = []
 replaced value p i (x ∷ l) = (value when p i else x) ∷ replaced value p (suc i) l

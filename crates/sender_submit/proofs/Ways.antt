@@ -1,93 +1,92 @@
 -- The definitions at each way out of the code. Assumes nothing.
-use Prim.Native.Nat.{ℕ, ◌+◌, ◌-◌, ◌≤◌}
+use Prim.Native.Nat.{ℕ, ◌+◌, ◌-◌, ◌^◌, ◌≤◌}
 use mathlib.Core.Path.{◌≡◌, refl, sym, ◌∙◌, ap}
-use mathlib.Core.Bool.{true, ◌&&◌, ◌||◌, not}
-use mathlib.Core.List.{List, [], ◌∷◌, ◌++◌}
+use mathlib.Core.Bool.{Bool, true, false, ◌&&◌, ◌||◌, not}
+use mathlib.Core.List.{List, [], ◌∷◌}
 use native.Mathlib.Omega.{arith}
 use borrow.Author.Tests.{le-ltb, leb-false, ltb-false, not-false}
 use lib.Dec.{leb, ltb, eqb}
-use lib.ListN.{length, take, drop, length-take, length-drop}
+use lib.ListN.{length, take}
+use Rattle.std.specs.Prelude.{Result, Ok}
+use Rattle.terms.specs.Ladder.{◌when◌else◌}
 use Rattle.terms.specs.Lists.{◌at_front_of◌}
-use Rattle.terms.specs.Refusals.{number_of}
 use Rattle.terms.specs.declared.Refusal.{Refusal}
 use Rattle.terms.specs.declared.StreamId.{StreamId}
 use Rattle.terms.proofs.Laws.{and_left, and_right, past}
-use Rattle.wire.proofs.Parts.{rest_back}
-use Rattle.packet_write.specs.Writing.{Written, written, said_writing, write_of, output_after}
+use Rattle.packet_write.specs.Writing.{written, write_of}
 use Rattle.packet_write.specs.declared.Fields.{Fields}
-use Rattle.packet_write.specs.declared.Writing.{Writing}
-use Rattle.packet_write.specs.declared.Writing.TheVariants as W
-use Rattle.terms.specs.Answers.{refusal, values}
+use Rattle.packet_write.specs.declared.Written.{Written}
+use Rattle.terms.specs.Answers.{values, saying}
+use Rattle.terms.proofs.Determined.{saying_one}
 use Rattle.receiver_state.specs.Rules.{rules_of, slot_fits}
 use Rattle.receiver_state.specs.declared.Receiver.{Receiver}
-use Rattle.receiver_ack.specs.Missing.{missing_from}
+use Rattle.receiver_ack.specs.Missing.{missing_from, missing_of}
 use Rattle.receiver_ack.specs.Fields.{at_least255, fields_from, nacks_from, ack_fields_of, ack_nacks_of}
 use Rattle.receiver_ack.specs.Acknowledge.{acked_fields}
 use Rattle.receiver_ack.specs.declared.AckFields.{AckFields}
-use Rattle.receiver_ack.proofs.Ways.{fields_by, packet_most, packet_written, nacks_few}
+use Rattle.receiver_ack.proofs.Ways.{fields_by, packet_most, packet_written, nacks_few, nacks_front}
 use Rattle.sender_state.specs.Table.{count_of}
 use Rattle.sender_state.specs.Rules.{rules, sizes_fit}
-use Rattle.sender_state.specs.Answers.{Outcome, said_tally}
 use Rattle.sender_state.specs.declared.Sender.{Sender}
 use Rattle.sender_state.proofs.Facts.{sized}
-use Rattle.sender_state.specs.declared.Tally.{Tally}
-use Rattle.sender_state.specs.declared.Tally.TheVariants as Y
 use Rattle.sender_submit_answer.specs.Answer.{chunks_of, free_of, submit_said}
 use Rattle.sender_submit_answer.proofs.Lengths.{length_fair}
 use Rattle.sender_submit.specs.Chunks.{data_packet, Stored, stored_by}
-use Rattle.sender_submit.specs.Submit.{submit_of}
-use Rattle.sender_submit.specs.Steps.{acked_packet, Acking, Roomy}
+use Rattle.sender_submit.specs.Steps.{acked_packet, chokes, Acking, Roomy}
+use Rattle.sender_submit.specs.Making.{made_by}
+use Rattle.sender_submit.specs.declared.packets.Making.{Making}
 
 -- ONE PACKET
+
+chokes_is : (t : Bool) → eqb (60001 when t else 0) 60001 ≡ t
+chokes_is true = refl
+chokes_is false = refl
 
 -- what every receiver gives, the writer takes
 pub acking_of : (next highest : ℕ) (marks : List ℕ) → Acking (fields_from next highest marks) (nacks_from next highest marks)
 unfolding fields_from
-acking_of next highest marks = record {
-  few = nacks_few next highest marks;
-  choked = at_least255 (missing_from next highest marks);
-  flags = refl;
-  delay = refl;
-}
+acking_of next highest marks =
+    let e = sym (chokes_is (at_least255 (missing_from next highest marks))) in
+    record {
+      few = nacks_few next highest marks;
+      flags = ap (λ (t : Bool). 2 ^ 6 when t else 0) e;
+      delay = ap (λ (t : Bool). 60001 when t else 0) e;
+    }
 
-module _ (acks : AckFields) (nacks : List ℕ) (k : Acking acks nacks) (send recv : StreamId) (number : ℕ) (payload : List ℕ) where
-  fields_are : acked_fields acks send recv number ≡ fields_by k.choked acks.ack_through.0 send recv number
-  fields_are = rw (k.flags, k.delay)
+module _ (m : Making) (number : ℕ) (payload : List ℕ) where
+  fields_are : acked_fields m.acks m.send m.recv number ≡ fields_by (chokes m.acks) m.acks.ack_through.0 m.send m.recv number
+  fields_are = λ i. record {
+    send_stream_id = m.send;
+    recv_stream_id = m.recv;
+    seq_nro = record { 0 = number };
+    ack_through = m.acks.ack_through;
+    resend_delay = 0;
+    flags = m.acking.flags i;
+    delay = m.acking.delay i;
+    max_size = 0;
+  }
 
-  chunk_most : length (acked_packet acks nacks send recv number payload) ≤ 1044 + length payload
-  chunk_most = rw fields_are (packet_most acks.ack_through.0 send recv number nacks payload k.choked k.few)
+  pub made_most : length (made_by m number payload) ≤ 1044 + length payload
+  made_most = rw fields_are (packet_most m.acks.ack_through.0 m.send m.recv number m.nacks.now payload (chokes m.acks) m.acking.few)
 
-  chunk_written : (room : ℕ) → length payload ≤ 1812 → 1044 + length payload ≤ room
-      → write_of (acked_fields acks send recv number) nacks [] [] payload room ≡ written (length (acked_packet acks nacks send recv number payload)) 0
-  chunk_written room short enough =
-      let most = chunk_most in
-      ap (λ (f : Fields). write_of f nacks [] [] payload room) fields_are
-      ∙ packet_written acks.ack_through.0 send recv number nacks payload k.choked room k.few (omega arith)
-      ∙ rw (← fields_are) (rw (le-ltb room (length (acked_packet acks nacks send recv number payload)) (omega arith)))
+  -- the writer has nothing to refuse where the place is long enough
+  pub made_written : (room : ℕ) → length payload ≤ 1812 → length payload + 1044 ≤ room
+      → write_of (acked_fields m.acks m.send m.recv number) m.nacks.now [] [] payload room ≡ written (length (made_by m number payload)) 0
+  made_written room short enough =
+      let most = made_most in
+      ap (λ (f : Fields). write_of f m.nacks.now [] [] payload room) fields_are
+      ∙ packet_written m.acks.ack_through.0 m.send m.recv number m.nacks.now payload (chokes m.acks) room m.acking.few (omega arith)
+      ∙ rw (← fields_are) (rw (le-ltb room (length (made_by m number payload)) (omega arith)))
 
-  -- the writer is lent the store from a place on
-  module _ (store after : List ℕ) (from : ℕ) (w : Writing) (short : length payload ≤ 1812) (inside : from + (1044 + length payload) ≤ length store)
-      (says : said_writing w ≡ write_of (acked_fields acks send recv number) nacks [] [] payload (length (take (length store - from) (drop from store))))
-      (leaves : after ≡ output_after (acked_fields acks send recv number) nacks [] [] payload (take (length store - from) (drop from store))) where
-    judged : write_of (acked_fields acks send recv number) nacks [] [] payload (length (take (length store - from) (drop from store)))
-        ≡ written (length (acked_packet acks nacks send recv number payload)) 0
-    judged = chunk_written (length (take (length store - from) (drop from store))) short (simp (length-take, length-drop) (omega arith))
+  pub made_done : (room : ℕ) (answer : Result Written Refusal) → length payload ≤ 1812 → length payload + 1044 ≤ room
+      → saying answer ≡ write_of (acked_fields m.acks m.send m.recv number) m.nacks.now [] [] payload room
+      → answer ≡ Ok (record { length = length (made_by m number payload); signature_at = 0 })
+  made_done room answer short enough says = saying_one answer (Ok (record { length = length (made_by m number payload); signature_at = 0 })) (says ∙ made_written room short enough)
 
-    pub never_refused : (why : Refusal) → w ≡ W.Refused why → ⊥
-    never_refused why e = let s = sym (ap said_writing e) ∙ says ∙ judged in let z : ◌≡◌ {A = ℕ} 0 1 = cc in omega arith
-
-    pub chunk_long : (n at : ℕ) → w ≡ W.Written n at → n ≡ length (acked_packet acks nacks send recv number payload)
-    chunk_long n at e =
-        let s = sym (ap said_writing e) ∙ says ∙ judged in
-        let w : ◌≡◌ {A = Written} (record { length_is = n; signature_begins = at }) (record { length_is = length (acked_packet acks nacks send recv number payload); signature_begins = 0 }) = cc in
-        ap (λ (x : Written). x.length_is) w
-
-    pub chunk_short : (n at : ℕ) → w ≡ W.Written n at → n ≤ 2856
-    chunk_short n at e = omega (arith, chunk_long n at e, chunk_most)
-
-    pub chunk_laid : take from store ++ (after ++ drop (length store - from) (drop from store))
-        ≡ take from store ++ (acked_packet acks nacks send recv number payload at_front_of drop from store)
-    chunk_laid = rest_back store (acked_packet acks nacks send recv number payload) after from (leaves ∙ rw judged)
+-- a receiver's NACKs stand at the front of the table with its missing numbers
+pub nacks_at : (r : Receiver) (before : List ℕ) → (take (ack_fields_of r).nacks (missing_of r at_front_of before) ≡ ack_nacks_of r)
+    × ((ack_fields_of r).nacks ≤ length (missing_of r at_front_of before))
+nacks_at r before = nacks_front r.head.next.0 r.head.highest.0 r.marks before (ack_fields_of r) (missing_of r at_front_of before) refl refl
 
 -- with the ack fields of a receiver, what is stored is stored by its packets
 pub stored_of : (r : Receiver) (send recv : StreamId) (acks : AckFields) (nacks : List ℕ) → acks ≡ ack_fields_of r → nacks ≡ ack_nacks_of r
@@ -131,27 +130,10 @@ made s r size store_length given h =
       gives = let e = p18.1 in cc;
     }
 
--- THE OUTCOME
-
-module _ (s : Sender) (r : Receiver) (send recv : StreamId) (bytes store : List ℕ) (answer : Tally) (judged : said_tally answer ≡ submit_said s r (length bytes) (length store)) where
-  pub submit_kept : (why : Refusal) → answer ≡ Y.Refused why
-      → ◌≡◌ {A = Outcome} (record { says = said_tally answer; state = s; lent = store }) (submit_of s r send recv bytes store)
-  unfolding submit_of
-  submit_kept why is =
-      let e : submit_said s r (length bytes) (length store) ≡ refusal (number_of why) = sym judged ∙ ap said_tally is in
-      rw is (sym (simp e))
-
-  module _ (packets : ℕ) (is : answer ≡ Y.Count packets) where
-    told : submit_said s r (length bytes) (length store) ≡ values (packets ∷ [])
-    told = sym judged ∙ ap said_tally is
-
-    counted : chunks_of s.chunk (length bytes) ≡ packets
-    counted = let e = (made s r (length bytes) (length store) (packets ∷ []) told).gives in cc
-
-    pub submit_asks : (rules_of r ≡ true) × Roomy s packets (length store)
-    submit_asks = let m = made s r (length bytes) (length store) (packets ∷ []) told in (m.keeps, rw counted at m.roomy)
-
-    pub submit_made : (after : Sender) (left : List ℕ) → ◌≡◌ {A = Stored} (record { state = after; store = left }) (stored_by (data_packet r send recv) packets bytes s store)
-        → ◌≡◌ {A = Outcome} (record { says = values (packets ∷ []); state = after; lent = left }) (submit_of s r send recv bytes store)
-    unfolding submit_of
-    submit_made after left e = ap (λ (x : Stored). record { says = values (packets ∷ []); state = x.state; lent = x.store }) e ∙ sym (simp told (rw counted))
+-- what holds where the answer is a count; the answer comes first, so that `grind` finds it
+pub submit_fair : (s : Sender) (r : Receiver) (size store_length packets : ℕ) → values (packets ∷ []) ≡ submit_said s r size store_length
+    → (chunks_of s.chunk size ≡ packets) × (rules_of r ≡ true) × (1 ≤ s.chunk) × Roomy s (chunks_of s.chunk size) store_length
+submit_fair s r size store_length packets says =
+    let m = made s r size store_length (packets ∷ []) (sym says) in
+    let e = m.gives in
+    (cc, m.keeps, m.chunk_some, m.roomy)

@@ -1,3 +1,4 @@
 pub mod Chunks
 pub mod Submit
 pub mod Steps
+pub mod Making

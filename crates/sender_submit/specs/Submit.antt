@@ -1,9 +1,9 @@
 -- What submit does, whatever it is given: its answer (crate submit_answer), and what it leaves of the state and of the store.
 use Rattle.std.specs.Prelude.{ℕ, List, length}
 use Rattle.terms.specs.declared.StreamId.{StreamId}
-use Rattle.terms.specs.Answers.{◌unless_refused◌else◌}
+use Rattle.terms.specs.Answers.{◌unless_refused◌else◌, said_of}
 use Rattle.receiver_state.specs.declared.Receiver.{Receiver}
-use Rattle.sender_state.specs.Answers.{Outcome, said_tally}
+use Rattle.sender_state.specs.Answers.{Outcome}
 use Rattle.sender_state.specs.declared.Sender.{Sender}
 use Rattle.sender_submit_answer.specs.Answer.{chunks_of, submit_said}
 use Rattle.sender_submit.specs.Chunks.{data_packet, Stored, stored_by}
@@ -26,4 +26,4 @@ module _ (s : Sender) (r : Receiver) (send recv : StreamId) (bytes store : List 
 
 -- results of the code, as an outcome
 abbrev pub submitted_out : Submitted → List ℕ → Outcome
-submitted_out a store = record { says = said_tally a.answer; state = a.state; lent = store }
+submitted_out a store = record { says = said_of a.answer; state = a.state; lent = store }

@@ -4,12 +4,13 @@ use mathlib.Core.Path.{◌≡◌}
 use Rattle.terms.proofs.Determined.{determined}
 use Rattle.timer.specs.Timer.{sampled_of, rto_of}
 use Rattle.timer.specs.Window.{grown_of, fallen_of}
-use Rattle.timer.specs.declared.Timing.{Timing}
+use Rattle.timer.specs.declared.Sampled.{Sampled}
+use Rattle.std.specs.Prelude.{Option}
 
-pub sampled_determined : (t : Timing) (sample : ℕ) (a b : Timing) → a ≡ sampled_of t sample → b ≡ sampled_of t sample → a ≡ b
+pub sampled_determined : (t : Option Sampled) (sample : ℕ) (a b : Option Sampled) → a ≡ sampled_of t sample → b ≡ sampled_of t sample → a ≡ b
 sampled_determined t sample a b p q = determined p q
 
-pub rto_determined : (t : Timing) (a b : ℕ) → a ≡ rto_of t → b ≡ rto_of t → a ≡ b
+pub rto_determined : (t : Option Sampled) (a b : ℕ) → a ≡ rto_of t → b ≡ rto_of t → a ≡ b
 rto_determined t a b p q = determined p q
 
 pub window_grown_determined : (window a b : ℕ) → a ≡ grown_of window → b ≡ grown_of window → a ≡ b

@@ -9,8 +9,8 @@ use lib.Dec.{ltb}
 use Rattle.terms.proofs.Laws.{case, and_left, and_right, and_both}
 use Rattle.timer.specs.Timer.{smoothed_of, deviation_of, sampled_of, rto_of, timing_fits}
 use Rattle.timer.specs.Window.{grown_of, fallen_of}
-use Rattle.timer.specs.declared.Timing.{Timing}
-use Rattle.timer.specs.declared.Timing.TheVariants.{Unsampled, Sampled}
+use Rattle.timer.specs.declared.Sampled.{Sampled}
+use Rattle.std.specs.Prelude.{Option, Some, None}
 
 -- an average of numbers below 2^32 is below 2^32, so 32 bits hold the smoothed time and the deviation
 pub smoothed_fits : (rtt R : ℕ) → rtt < 2 ^ 32 → R < 2 ^ 32 → smoothed_of rtt R < 2 ^ 32
@@ -19,24 +19,24 @@ smoothed_fits rtt R a b = omega arith
 pub deviation_fits : (rtt deviation R : ℕ) → rtt < 2 ^ 32 → deviation < 2 ^ 32 → R < 2 ^ 32 → deviation_of rtt deviation R < 2 ^ 32
 deviation_fits rtt deviation R a b d = omega arith
 
-pub sampled_fits : (t : Timing) (R : ℕ) → timing_fits t ≡ true → R < 2 ^ 32 → timing_fits (sampled_of t R) ≡ true
+pub sampled_fits : (t : Option Sampled) (R : ℕ) → timing_fits t ≡ true → R < 2 ^ 32 → timing_fits (sampled_of t R) ≡ true
 unfolding timing_fits sampled_of
-sampled_fits Unsampled R h b = and_both _ _ (lt-ltb _ _ b) (lt-ltb (R / 2) (2 ^ 32) (omega arith))
-sampled_fits (Sampled rtt deviation) R h b =
-    let p : rtt < 2 ^ 32 = ltb-true _ _ (and_left (ltb rtt (2 ^ 32)) (ltb deviation (2 ^ 32)) h) in
-    let q : deviation < 2 ^ 32 = ltb-true _ _ (and_right (ltb rtt (2 ^ 32)) (ltb deviation (2 ^ 32)) h) in
-    and_both _ _ (lt-ltb _ _ (smoothed_fits rtt R p b)) (lt-ltb _ _ (deviation_fits rtt deviation R p q b))
+sampled_fits None R h b = and_both _ _ (lt-ltb _ _ b) (lt-ltb (R / 2) (2 ^ 32) (omega arith))
+sampled_fits (Some t) R h b =
+    let p : t.rtt < 2 ^ 32 = ltb-true _ _ (and_left (ltb t.rtt (2 ^ 32)) (ltb t.deviation (2 ^ 32)) h) in
+    let q : t.deviation < 2 ^ 32 = ltb-true _ _ (and_right (ltb t.rtt (2 ^ 32)) (ltb t.deviation (2 ^ 32)) h) in
+    and_both _ _ (lt-ltb _ _ (smoothed_fits t.rtt R p b)) (lt-ltb _ _ (deviation_fits t.rtt t.deviation R p q b))
 
 -- the timeout lies within its bounds whatever was sampled
-pub rto_least : (t : Timing) → 1000 ≤ rto_of t
+pub rto_least : (t : Option Sampled) → 1000 ≤ rto_of t
 unfolding rto_of
-rto_least Unsampled = omega arith
-rto_least (Sampled rtt deviation) = omega arith
+rto_least None = omega arith
+rto_least (Some t) = omega arith
 
-pub rto_most : (t : Timing) → rto_of t ≤ 60000
+pub rto_most : (t : Option Sampled) → rto_of t ≤ 60000
 unfolding rto_of
-rto_most Unsampled = omega arith
-rto_most (Sampled rtt deviation) = omega arith
+rto_most None = omega arith
+rto_most (Some t) = omega arith
 
 -- what holds of each way in which a window grows, or falls, holds of the window after it
 pub grown_by_lem : (P : ℕ → Type 0) (w : ℕ) → (w < 64 → P (2 * w)) → (64 ≤ w → w ≤ 127 → P (w + 1)) → (127 < w → P w) → P (grown_of w)

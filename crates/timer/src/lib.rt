@@ -2,24 +2,16 @@
 #![tactic(auto)]
 
 ghost use Rattle.std.specs.Prelude.{◌≡◌};
-ghost use Rattle.timer.specs.Timer.{∣◌−◌∣, smoothed_of, deviation_of, sampled_of, held_of, rto_of};
+ghost use Rattle.timer.specs.Timer.{smoothed_of, deviation_of, sampled_of, rto_of};
 ghost use Rattle.timer.specs.Window.{grown_of, fallen_of};
 
-// What the samples so far have told. One enum stands for the Rust's `Rtt` and `Rto`, since document 01 has both become
-// unsampled together: a sampled time beside an unsampled timeout cannot be written down. The timeout is computed from it.
-#[derive(Clone, Copy)]
-pub enum Timing {
-    // no sample since the start, or since packets were last resent
-    Unsampled,
-    // the smoothed time and its deviation: both stay below 2^32 (proofs/Laws), so 32 bits hold them
-    Sampled { rtt: u32, deviation: u32 },
-}
-
-// How far apart two times are.
-fn apart(a: u32, b: u32) -> u32
-    ensures { result ≡ ∣ a − b ∣ }
-{
-    if a < b { b - a } else { a - b }
+// What the samples so far have told: the smoothed time and its deviation. Both stay below 2^32 (proofs/Laws), so 32 bits hold them. One `Option` of this stands
+// for the Rust's `Rtt` and `Rto`, since document 01 has both become unsampled together: a sampled time beside an unsampled timeout cannot be written down. The
+// timeout is computed from it. It is `None` where there is no sample since the start, or since packets were last resent.
+#[derive(Clone, Copy, Debug, PartialEq, Eq)]
+pub struct Sampled {
+    pub rtt: u32,
+    pub deviation: u32,
 }
 
 // The smoothed time after a later sample. Ports `Rtt::calculate_rtt`. The sum is taken in 64 bits: eight times a time may not fit 32.
@@ -34,53 +26,46 @@ fn smoothed(rtt: u32, sample: u32) -> u32
 fn deviated(rtt: u32, deviation: u32, sample: u32) -> u32
     ensures { result ≡ deviation_of rtt deviation sample }
 {
-    let off = apart(rtt, sample);
+    let off = rtt.abs_diff(sample);
     ((3 * (deviation as u64) + (off as u64)) / 4) as u32
 }
 
-// A time held to the bounds of a timeout.
-fn held(time: u64) -> u64
-    ensures { result ≡ held_of time }
-{
-    if time < 1000 {
-        return 1000;
-    }
-    if time > 60000 {
-        return 60000;
-    }
-    time
-}
-
-impl Timing {
+impl Sampled {
     // The timing after one more sample, in milliseconds. The caller has cut an older age to 4,294,967,295.
-    pub fn sampled(self, sample: u32) -> Timing
-        ensures { result ≡ sampled_of self sample }
+    #[tactic(auto, unfolding(crate::specs::Timer::sampled_of))]
+    pub fn sampled(timing: Option<Sampled>, sample: u32) -> Option<Sampled>
+        ensures { result ≡ sampled_of timing sample }
     {
-        match self {
-            Timing::Unsampled => Timing::Sampled {
+        match timing {
+            None => Some(Sampled {
                 rtt: sample,
                 deviation: sample / 2,
-            },
-            Timing::Sampled { rtt, deviation } => Timing::Sampled {
+            }),
+            Some(Sampled { rtt, deviation }) => Some(Sampled {
                 rtt: smoothed(rtt, sample),
                 deviation: deviated(rtt, deviation, sample),
-            },
+            }),
         }
     }
 
     // The timeout, in milliseconds: 64 bits wide, since it is added to clocks and compared with ages.
-    pub fn rto(self) -> u64
-        ensures { result ≡ rto_of self }
+    #[tactic(auto, unfolding(crate::specs::Timer::rto_of))]
+    pub fn rto(timing: Option<Sampled>) -> u64
+        ensures { result ≡ rto_of timing }
     {
-        match self {
-            Timing::Unsampled => 9000,
-            Timing::Sampled { rtt, deviation } => held((rtt as u64) + 4 * (deviation as u64)),
+        match timing {
+            None => 9000,
+            Some(Sampled { rtt, deviation }) => {
+                let time = (rtt as u64) + 4 * (deviation as u64);
+                time.clamp(1000, 60000)
+            }
         }
     }
 }
 
 // The window after an acknowledged packet. Ports the window of `handle_acks`. It is total: a window that no state allows, 0 or
 // above 128, stays.
+#[tactic(auto, unfolding(crate::specs::Window::grown_of))]
 pub fn window_grown(window: u32) -> u32
     ensures { result ≡ grown_of window }
 {
@@ -94,6 +79,7 @@ pub fn window_grown(window: u32) -> u32
 }
 
 // The window after a resend. Ports the window of `resend`.
+#[tactic(auto, unfolding(crate::specs::Window::fallen_of))]
 pub fn window_fallen(window: u32) -> u32
     ensures { result ≡ fallen_of window }
 {

@@ -17,9 +17,6 @@ use Rattle.timer_float.specs.Float.{mix_of, cut_of, float_of}
 use Rattle.timer_float.specs.Engines.{EnginesAgree}
 use Rattle.timer_float.proofs.Values.{mul_value, add_value, rem_one, sub_value}
 
-abbrev eighths : ℕ → ℕ → ℕ
-eighths old sample = 7 * old + sample
-
 -- an eighth of a whole number below 2 ^ 53 is an f64
 pub eighth : (v : ℕ) → v < 2 ^ 53 → HasValue (round binary64 false v 8) false v 8
 eighth v h =

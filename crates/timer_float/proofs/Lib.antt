@@ -1,7 +1,6 @@
--- Floats by the fractions that they equal (Values), that the engines agree (Agree), the ways out of the call (Ways), the document's pairs, computed (Worked), and that
--- the promise determines its result (Determined).
+-- Floats by the fractions that they equal (Values), that the engines agree (Agree), the document's pairs, computed (Worked), and that the promise determines its
+-- result (Determined).
 pub mod Values
 pub mod Agree
-pub mod Ways
 pub mod Worked
 pub mod Determined

@@ -2,11 +2,8 @@
 use Rattle.std.specs.Prelude.{ℕ, [], ◌∷◌, ltb, pos, Float}
 use Rattle.std.specs.Float.{binary64}
 use Rattle.std.specs.Float.Ieee.{of_int, of_bits, add, mul, sub, rem, to_unsigned}
-use Rattle.terms.specs.Refusals.{number_of}
 use Rattle.terms.specs.Ladder.{◌when◌else◌}
 use Rattle.terms.specs.Answers.{Said, refusal, values}
-use Rattle.timer_float.specs.declared.Smoothed.{Smoothed}
-use Rattle.timer_float.specs.declared.Smoothed.TheVariants as S
 
 -- 0.875 times the old plus 0.125 times the sample
 unfoldable pub mix_of : ℕ → ℕ → Float
@@ -28,8 +25,3 @@ smooth_said engine old sample =
     refusal 31 when ltb 4294967295 old else
     refusal 31 when ltb 4294967295 sample else
     values (engine old sample ∷ [])
-
--- a refusal's number, or the time
-abbrev pub smoothed_said : Smoothed → Said
-smoothed_said (S.Time time) = values (time ∷ [])
-smoothed_said (S.Refused why) = refusal (number_of why)

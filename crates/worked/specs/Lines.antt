@@ -1,17 +1,15 @@
 -- What a line of the table says, and that it holds: the definitions are computed, and the result is compared.
-use Rattle.std.specs.Prelude.{ℕ, suc, ◌+◌, ◌-◌, Bool, true, false, ◌&&◌, List, [], ◌∷◌, ◌++◌, eqb, length, replicate}
+use Rattle.std.specs.Prelude.{ℕ, suc, ◌+◌, ◌-◌, Bool, true, false, ◌&&◌, List, [], ◌∷◌, ◌++◌, eqb, length, replicate, Option, Some, None}
 use Rattle.terms.specs.Answers.{Said, refusal, values}
 use Rattle.receiver_runs.specs.Runs.{Call, Event, begun, events_of}
 use Rattle.receiver_runs.specs.History.{Piece, taken_in}
 use Rattle.timer.specs.Timer.{smoothed_of, sampled_of, rto_of}
 use Rattle.timer.specs.Window.{grown_of}
-use Rattle.timer.specs.declared.Timing.{Timing}
-use Rattle.timer.specs.declared.Timing.TheVariants as G
+use Rattle.timer.specs.declared.Sampled.{Sampled}
 use Rattle.timer_float.specs.Float.{float_of, smooth_said}
 use Rattle.sender_state.specs.Places.{state_of}
 use Rattle.sender_state.specs.Answers.{Outcome}
 use Rattle.sender_state.specs.declared.Sender.{Sender}
-use Rattle.sender_state.specs.declared.Timer.TheVariants as T
 use Rattle.sender_resend.specs.Resend.{resend_of}
 
 pub data Line : Type 0 where
@@ -64,13 +62,13 @@ abbrev growing : ℕ → List ℕ → Bool
 growing window [] = true
 growing window (grown ∷ rest) = eqb (grown_of window) grown && growing grown rest
 
-abbrev sampled_by : Timing → List ℕ → Timing
+abbrev sampled_by : Option Sampled → List ℕ → Option Sampled
 sampled_by timing [] = timing
 sampled_by timing (sample ∷ rest) = sampled_by (sampled_of timing sample) rest
 
-abbrev timed : Timing → ℕ → ℕ → ℕ → Bool
-timed G.Unsampled rtt deviation rto = false
-timed (G.Sampled r d) rtt deviation rto = eqb r rtt && (eqb d deviation && eqb (rto_of (G.Sampled r d)) rto)
+abbrev timed : Option Sampled → ℕ → ℕ → ℕ → Bool
+timed None rtt deviation rto = false
+timed (Some t) rtt deviation rto = eqb t.rtt rtt && (eqb t.deviation deviation && eqb (rto_of (Some t)) rto)
 
 -- a list of 192 with the given numbers at its front
 abbrev row : List ℕ → List ℕ
@@ -89,7 +87,7 @@ sent_times (age ∷ rest) = (20000 - age) ∷ sent_times rest
 -- a sender at clock 20,000 with these packets in flight and its timer due
 abbrev flying : List ℕ → ℕ → Sender
 flying ages window =
-    state_of 1 192 (length ages + 1) window G.Unsampled (T.At 20000) 20000
+    state_of 1 192 (length ages + 1) window None (Some 20000) 20000
     (record {
       numbers = row (numbered 1 ages);
       lengths = row (replicate (length ages) 22);
@@ -105,7 +103,7 @@ unfoldable pub holds : Line → Bool
 holds (receives s calls answer output) = last_is answer output (run_of s calls)
 holds (hands s calls pieces) = same (spelled pieces) (spelled (taken_in (run_of s calls)))
 holds (grows window list) = growing window list
-holds (smooths samples rtt deviation rto) = timed (sampled_by G.Unsampled samples) rtt deviation rto
+holds (smooths samples rtt deviation rto) = timed (sampled_by None samples) rtt deviation rto
 holds (weighs old sample time) = weighing (smooth_said float_of old sample) time && weighing (smooth_said smoothed_of old sample) time
 holds (resends ages window count after) = resent (resend_of (flying ages window) 20000 true) count after
 

@@ -1,21 +1,30 @@
--- `sender_send::table::ranked` meets its contract: after k turns low heads what is left of the numbers from rank k on. Assumes nothing.
-use Rattle.sender_send.proofs.Ranks.{walk_start, walk_more, walk_none, walk_end}
+-- `sender_send::table::ranked` meets its contract: what the walk finds stands at its place. Assumes nothing.
+use mathlib.Core.Path.{sym}
+use native.Mathlib.Omega.{arith}
+use borrow.Author.Rules.{rules}
+use Rattle.sender_state.proofs.Facts.{ruled}
+use Rattle.sender_state.proofs.Search.{tidy}
+use Rattle.sender_state.specs.Table.{◌!◌}
+use Rattle.sender_send.specs.Steps.{RanksAt}
+use Rattle.sender_send.proofs.Ranks.{ranks_at, ranks_none}
+use Rattle.sender_send.proofs.table.ranked.Goals.{After-place_of-place}
 use Rattle.sender_send.proofs.table.ranked.Goals as goal
 
-pub least-low-requires : goal.least-low-requires
-least-low-requires c = let p = c.requires in (p.row, p.table)
+pub number_at-requires : goal.number_at-requires
+number_at-requires c = tidy c.args.s.now (search rules) (search rules) (omega arith) (ruled c.args.s.now c.requires.0) _ c.requires.1
 
-pub loop-k-init : goal.loop-k-init
-loop-k-init c = walk_start _ _ _ _ _ c.requires _ c.least-low.ensures
+pub returns-in_err-number : goal.returns-in_err-number
+returns-in_err-number c = rw c.from_residual.ensures (ranks_none _ _ (sym c.in_err-number.ensures))
 
-pub returns-then-low : goal.returns-then-low
-returns-then-low c = walk_none _ _ _ _ _ _ _ c.loop-k.invariant c.if-low.true
+found : (c : After-place_of-place) → let a = c.args in
+    RanksAt a.s.now a.wanted a.rank (record { number = record { 0 = c.in_ok-number.number }; place = c.place_of-place.result; size = a.s.now.lengths ! c.place_of-place.result })
+found c = ranks_at c.args.s.now (search rules) (search rules) (omega arith) c.requires.0 _ _ _ _ c.requires.1 (sym c.in_ok-number.ensures) c.place_of-place.ensures
 
-pub least-low-requires-in-loop-k : goal.least-low-requires-in-loop-k
-least-low-requires-in-loop-k c = let p = c.requires in (p.row, p.table)
+pub offset_bounds-s-place : goal.offset_bounds-s-place
+offset_bounds-s-place c = let f = (found (goal.at.offset_bounds-s-place c).After-place_of-place).stands in omega arith
 
-pub loop-k-preserved : goal.loop-k-preserved
-loop-k-preserved c = walk_more _ _ _ _ _ _ _ c.loop-k.invariant c.requires c.loop-k-test.true c.if-low.false _ c.least-low-in-loop-k.ensures
+pub bounds-s-place : goal.bounds-s-place
+bounds-s-place c = (found (goal.at.bounds-s-place c).After-place_of-place).stands.low
 
 pub returns : goal.returns
-returns c = walk_end _ _ _ _ _ _ _ c.loop-k.invariant c.loop-k-test.false
+returns c = found (goal.at.returns c).After-place_of-place
