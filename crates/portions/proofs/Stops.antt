@@ -28,7 +28,7 @@ module _ {State Given : Type 0} (step : State → ℕ → Left State Given)
         is = refl;
         in_portion = omega arith;
         on_nothing = λ _. refl;
-        on_given = λ _ _ e. let z : ◌≡◌ {A = ℕ} 0 1 = cc in absurd (omega arith);
+        on_given = λ _ _ e. cc;
       }
   does state (byte ∷ rest) = go (step state byte).gave refl (does (step state byte).state rest)
     where
@@ -42,7 +42,7 @@ module _ {State Given : Type 0} (step : State → ℕ → Left State Given)
           record {
             is = rw (e, one_at_most state byte given others e);
             in_portion = omega arith;
-            on_nothing = λ n. let z : ◌≡◌ {A = ℕ} 0 1 = cc in absurd (omega arith);
+            on_nothing = λ n. cc;
             on_given = λ x y q. (omega arith, cc);
           }
       go [] e d =

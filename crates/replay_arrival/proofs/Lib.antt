@@ -1,3 +1,3 @@
--- The NACKs as numbers, and the ways out of each function (Ways); that the promise determines its result (Determined).
+-- The NACKs one by one (Ways), and that the promise determines its result (Determined).
 pub mod Ways
 pub mod Determined

@@ -1,20 +1,16 @@
 -- A packet arrives, as document 02's kind 1 has it: read; if that succeeds, acks unless bit 10, then in any case accept unless its number is 0. Each is the
 -- call's own definition.
-use Rattle.std.specs.Prelude.{ℕ, List, [], ◌∷◌, eqb}
+use Rattle.std.specs.Prelude.{ℕ, List, [], ◌∷◌, eqb, Result, Option, Some, None}
 use Rattle.terms.specs.Ladder.{◌when◌else◌}
-use Rattle.terms.specs.Answers.{Saying, Said, refusal, values, said}
+use Rattle.terms.specs.Answers.{Saying, Said, refusal, values, said, said_of}
+use Rattle.terms.specs.declared.Refusal.{Refusal}
 use Rattle.packet_read.specs.Flags.{bit}
 use Rattle.packet_read.specs.Reading.{read_of, nack_numbers_of, payload_of}
 use Rattle.packet_read.specs.declared.Packet.{Packet}
 use Rattle.receiver_state.specs.declared.Receiver.{Receiver}
 use Rattle.receiver_calls.specs.Accept.{accept_of}
-use Rattle.sender_state.specs.Answers.{said_tally}
 use Rattle.sender_state.specs.declared.Sender.{Sender}
 use Rattle.sender_acks.specs.Acks.{acks_of}
-use Rattle.replay_arrival.specs.declared.AcksTold.{AcksTold}
-use Rattle.replay_arrival.specs.declared.AcksTold.TheVariants as A
-use Rattle.replay_arrival.specs.declared.AcceptTold.{AcceptTold}
-use Rattle.replay_arrival.specs.declared.AcceptTold.TheVariants as B
 use Rattle.replay_arrival.specs.declared.AckedHere.{AckedHere}
 use Rattle.replay_arrival.specs.declared.AcceptedHere.{AcceptedHere}
 use Rattle.replay_arrival.specs.declared.Arrived.{Arrived}
@@ -75,13 +71,13 @@ unfoldable pub arrive_of : List ℕ → ℕ → Receiver → Sender → List ℕ
 arrive_of packet clock receiver sender store = arrives_by (read_of packet) packet clock receiver sender store
 
 -- results of the code, as an outcome: an answer that was not asked for is none
-abbrev pub said_acks : AcksTold → List Said
-said_acks A.Unasked = []
-said_acks (A.Asked tally) = said_tally tally ∷ []
+abbrev pub said_acks : Option (Result ℕ Refusal) → List Said
+said_acks None = []
+said_acks (Some answer) = said_of answer ∷ []
 
-abbrev pub said_accept : AcceptTold → List Said
-said_accept B.Unasked = []
-said_accept (B.Asked answer) = said answer ∷ []
+abbrev pub said_accept : Option (Result (Unit {0}) Refusal) → List Said
+said_accept None = []
+said_accept (Some answer) = said answer ∷ []
 
 abbrev pub acked_here : AckedHere → AcksHere
 acked_here a = record { told = said_acks a.told; sender = a.sender }

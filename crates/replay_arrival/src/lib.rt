@@ -8,57 +8,45 @@ ghost use Rattle.wire.specs.BigEndian.{numbers_at};
 ghost use Rattle.packet_read.specs.Reading.{read_of, nack_count};
 ghost use Rattle.replay_arrival.specs.Arrive.{acks_here, accept_here, arrive_of, acked_here, accepted_here, arrived};
 
-use packet_read::{Packet, Reading};
+use packet_read::Packet;
 use receiver_state::Receiver;
-use sender_state::{Sender, Tally};
-use terms::Answer;
+use sender_state::Sender;
+use terms::Refusal;
+use wire::Number;
 
-// What acks answered, where it was asked.
-#[derive(Clone, Copy)]
-pub enum AcksTold {
-    Unasked,
-    Asked(Tally),
-}
-
-// What accept answered, where it was asked.
-#[derive(Clone, Copy)]
-pub enum AcceptTold {
-    Unasked,
-    Asked(Answer),
-}
-
+// What acks answered, or none where it was not asked, and the sender after it.
 #[derive(Clone, Copy)]
 pub struct AckedHere {
-    pub told: AcksTold,
+    pub told: Option<Result<u32, Refusal>>,
     pub sender: Sender,
 }
 
+// The same of accept.
 #[derive(Clone, Copy)]
 pub struct AcceptedHere {
-    pub told: AcceptTold,
+    pub told: Option<Result<(), Refusal>>,
     pub receiver: Receiver,
 }
 
 // The answers, and both halves after them.
 #[derive(Clone, Copy)]
 pub struct Arrived {
-    pub read: Answer,
-    pub acks: AcksTold,
-    pub accept: AcceptTold,
+    pub read: Result<(), Refusal>,
+    pub acks: Option<Result<u32, Refusal>>,
+    pub accept: Option<Result<(), Refusal>>,
     pub receiver: Receiver,
     pub sender: Sender,
 }
 
-// The packet's NACKs as numbers, at the front of those lent: how many.
-fn nack_numbers(packet: &[u8], numbers: &mut [u32]) -> usize
-    requires { (22 + 4 * nack_count packet.now ≤ length packet.now) × (length numbers.old ≡ 255) }
-    ensures { (result ≤ 255) × (take result numbers.new ≡ numbers_at 4 (nack_count packet.now) 17 packet.now) }
+// The packet's NACKs as numbers, at the front of those lent: how many. There are at most 255, and no heap: a fixed array, and the count beside it.
+fn nack_numbers(packet: &[u8], numbers: &mut [u32; 255]) -> usize
+    requires { 22 + 4 * nack_count packet.now ≤ length packet.now }
+    ensures small { result ≤ 255 }
+    ensures read { take result numbers.new ≡ numbers_at 4 (nack_count packet.now) 17 packet.now }
 {
-    let count = wire::be8(packet, 16) as usize;
-    let mut i = 0;
-    while i < count {
-        numbers[i] = wire::be32(packet, 17 + 4 * i);
-        i += 1;
+    let count = usize::from(u8::read(packet, 16));
+    for i in 0..count {
+        numbers[i] = u32::read(packet, 17 + 4 * i);
     }
     count
 }
@@ -69,20 +57,14 @@ fn acks_here(p: Packet, packet: &[u8], clock: u64, sender: Sender) -> AckedHere
     ensures { acked_here result ≡ acks_here p packet.now clock sender }
 {
     if packet_read::flags::has(p.flags, 1024) {
-        return AckedHere {
-            told: AcksTold::Unasked,
-            sender: sender,
-        };
+        return AckedHere { told: None, sender };
     }
     let mut numbers = [0u32; 255];
     let count = nack_numbers(packet, &mut numbers);
-    let through = p.ack_through;
-    let acked = sender_acks::acks(sender, through, &numbers[..count], clock);
-    let answer = acked.answer;
-    let after = acked.state;
+    let acked = sender_acks::acks(sender, p.ack_through, &numbers[..count], clock);
     AckedHere {
-        told: AcksTold::Asked(answer),
-        sender: after,
+        told: Some(acked.answer),
+        sender: acked.state,
     }
 }
 
@@ -93,20 +75,19 @@ fn accept_here(p: Packet, packet: &[u8], receiver: Receiver, store: &mut [u8]) -
     let number = p.seq_nro;
     if number.0 == 0 {
         return AcceptedHere {
-            told: AcceptTold::Unasked,
-            receiver: receiver,
+            told: None,
+            receiver,
         };
     }
     let accepted = receiver_calls::accept(receiver, number, packet_parts::payload(packet), store);
-    let answer = accepted.answer;
-    let after = accepted.state;
     AcceptedHere {
-        told: AcceptTold::Asked(answer),
-        receiver: after,
+        told: Some(accepted.answer),
+        receiver: accepted.state,
     }
 }
 
 // A packet arrives, at this clock, with the receiver's store. What the calls refuse is an answer of theirs; whatever acks answers, accept is asked.
+#[tactic(auto, unfolding(crate::specs::Arrive::arrive_of))]
 pub fn arrive(
     packet: &[u8],
     clock: u64,
@@ -117,26 +98,22 @@ pub fn arrive(
     ensures { arrived result store.new ≡ arrive_of packet.now clock receiver sender store.old }
 {
     match packet_read::read(packet) {
-        Reading::Refused(why) => Arrived {
-            read: Answer::Refused(why),
-            acks: AcksTold::Unasked,
-            accept: AcceptTold::Unasked,
-            receiver: receiver,
-            sender: sender,
+        Err(why) => Arrived {
+            read: Err(why),
+            acks: None,
+            accept: None,
+            receiver,
+            sender,
         },
-        Reading::Read(p) => {
+        Ok(p) => {
             let acked = acks_here(p, packet, clock, sender);
             let accepted = accept_here(p, packet, receiver, store);
-            let acks = acked.told;
-            let accept = accepted.told;
-            let receiver_after = accepted.receiver;
-            let sender_after = acked.sender;
             Arrived {
-                read: Answer::Done,
-                acks: acks,
-                accept: accept,
-                receiver: receiver_after,
-                sender: sender_after,
+                read: Ok(()),
+                acks: acked.told,
+                accept: accepted.told,
+                receiver: accepted.receiver,
+                sender: acked.sender,
             }
         }
     }

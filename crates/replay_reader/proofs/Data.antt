@@ -1,13 +1,13 @@
 -- What the bytes of a portion do to a reader within a record's data, in a call that stops at the first complete record. Assumes nothing.
 use Prim.Native.Nat.{ℕ, zero, suc, ◌+◌, ◌≤◌, ◌<◌}
 use mathlib.Core.Path.{◌≡◌, refl, ap, ◌∙◌}
-use mathlib.Core.Bool.{Bool, true, false, ◌||◌}
+use mathlib.Core.Bool.{true, false}
 use mathlib.Core.List.{List, [], ◌∷◌, ◌++◌, append-nil}
 use native.Mathlib.Omega.{arith}
-use borrow.Author.Tests.{eq-eqb, ne_eqb, le-leb, lt-leb}
-use lib.Dec.{leb}
-use lib.ListN.{length, take, drop, get_or, length-append}
-use lib.Seq.{append_snoc, drop-cons}
+use borrow.Author.Tests.{eq-eqb, ne_eqb}
+use lib.ListN.{length, take, get_or, length-append}
+use lib.Seq.{append_snoc}
+use Rattle.std.proofs.lemmas.Grind.{common_steps}
 use Rattle.portions.specs.Stops.{until_given}
 use Rattle.replay_format.specs.Night.{size_fits, data_fits}
 use Rattle.replay_format.specs.Bytes.{in_data, before_record, ended, read_night_byte}
@@ -42,34 +42,11 @@ module _ (kind size : ℕ) where
         append_snoc there b (take (suc n) rest),
       )
 
-  -- or it does not
-  pub data_unfit : (there bytes : List ℕ) (n : ℕ) → length there + n ≡ size → 0 < n → n ≤ length bytes → data_fits kind (there ++ take n bytes) ≡ false
-      → until_given read_night_byte (in_data kind size there) bytes ≡ record { gave = []; used = length bytes; state = ended 29 }
-  data_unfit there bytes zero e low high fits = absurd (omega arith)
-  data_unfit there [] (suc n) e low high fits = absurd (omega arith)
-  data_unfit there (b ∷ rest) (suc zero) e low high fits = rw (eq-eqb (suc (length there)) size (omega arith), fits, until_ended 29 rest)
-  data_unfit there (b ∷ rest) (suc (suc n)) e low high fits =
-      let l = length-append there (b ∷ []) in
-      let s = append_snoc there b (take (suc n) rest) in
-      rw (
-        ne_eqb (suc (length there)) size (λ q. omega arith),
-        data_unfit (there ++ (b ∷ [])) rest (suc n) (omega arith) (omega arith) (omega arith) (ap (data_fits kind) s ∙ fits),
-      )
+-- which data fits: of the right length, and a path answer is 0 or 1
+pub fits_data : (kind : ℕ) (bytes : List ℕ) → size_fits kind (length bytes) ≡ true → (kind ≡ 4 → get_or bytes 0 0 ≤ 1) → data_fits kind bytes ≡ true
+fits_data kind bytes fits small = grind (arith, common_steps)
 
-  -- which data fits: of the right length, and a path answer is 0 or 1
-  pub other_fits : (bytes : List ℕ) → length bytes ≡ size → size_fits kind size ≡ true → (kind ≡ 4 → ⊥) → data_fits kind bytes ≡ true
-  other_fits bytes l fits n = rw (l, fits, ne_eqb kind 4 n) (go (leb (get_or bytes 0 0) 1))
-    where
-      go : (t : Bool) → (t || true) ≡ true
-      go true = refl
-      go false = refl
-
-  pub path_fits : (byte : ℕ) → size_fits kind size ≡ true → size ≡ 1 → byte ≤ 1 → data_fits kind (byte ∷ []) ≡ true
-  path_fits byte fits one small = let f : size_fits kind 1 ≡ true = rw one at fits in rw (f, le-leb byte 1 small)
-
-  pub path_unfit : (byte : ℕ) → size_fits kind size ≡ true → size ≡ 1 → kind ≡ 4 → 1 < byte → data_fits kind (byte ∷ []) ≡ false
-  path_unfit byte fits one path large = let f : size_fits kind 1 ≡ true = rw one at fits in rw (f, lt-leb byte 1 large, eq-eqb kind 4 path)
-
--- one byte of the portion
-pub one_byte : (portion : List ℕ) (at : ℕ) → at < length portion → take 1 (drop at portion) ≡ get_or portion at 0 ∷ []
-one_byte portion at h = rw (drop-cons portion at 0 h)
+-- a path answer is one byte, the next of the portion
+pub path_data : (kind size there n : ℕ) (buffer bytes : List ℕ) → size_fits kind size ≡ true → there < size → there + n ≡ size → kind ≡ 4
+    → get_or (take there buffer ++ take n bytes) 0 0 ≡ get_or bytes 0 0
+path_data kind size there n buffer bytes fits less e k = grind (arith, common_steps)

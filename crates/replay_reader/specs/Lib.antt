@@ -1,4 +1,4 @@
--- The reader's numbers and rules (Rules), its two calls (ReadOn, Finish), the steps of the code (Steps), and a file offered piece by piece (Pieces).
+-- The reader's numbers and rules (Rules), its two calls (ReadOn, Finish), and the steps of the code (Steps).
 pub mod Rules
 pub mod ReadOn
 pub mod Finish

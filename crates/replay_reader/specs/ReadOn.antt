@@ -1,23 +1,25 @@
 -- What read_on does, whatever it is given: its answer, how many bytes of the portion it used, and what it leaves of the reader and of the buffer.
-use Rattle.std.specs.Prelude.{ℕ, not, List, [], ◌∷◌, ltb, length}
-use Rattle.terms.specs.Refusals.{number_of}
+use Rattle.std.specs.Prelude.{ℕ, not, List, [], ◌∷◌, ltb, length, Result, Option, Some, None}
+use Rattle.terms.specs.declared.Refusal.{Refusal}
 use Rattle.terms.specs.Ladder.{◌when◌else◌}
 use Rattle.terms.specs.Lists.{◌at_front_of◌}
-use Rattle.terms.specs.Answers.{Said, refusal, values}
+use Rattle.terms.specs.Answers.{Said, refusal, values, told}
 use Rattle.portions.specs.Stops.{OneCall, until_given}
 use Rattle.replay_format.specs.Night.{Record}
 use Rattle.replay_format.specs.Bytes.{Known, in_head, before_record, at_length, in_length, in_data, ended, read_night_byte}
 use Rattle.replay_reader.specs.Rules.{known_of, numbers_of, data_there, reader_rules}
 use Rattle.replay_reader.specs.declared.NightReader.{NightReader}
 use Rattle.replay_reader.specs.declared.Onward.{Onward}
-use Rattle.replay_reader.specs.declared.Met.{Met}
-use Rattle.replay_reader.specs.declared.Met.TheVariants as M
+use Rattle.replay_reader.specs.declared.Record as C
+
+-- what a record is told by, where there is one: its kind and its length
+abbrev pub met_listed : Option C.Record → List ℕ
+met_listed (Some one) = one.kind ∷ one.size ∷ []
+met_listed None = []
 
 -- the number of a refusal; else the kind and the length of the record whose data stands at the buffer's front, or nothing where more is wanted
-abbrev pub said_met : Met → Said
-said_met (M.Record kind size) = values (kind ∷ size ∷ [])
-said_met M.More = values []
-said_met (M.Refused why) = refusal (number_of why)
+abbrev pub said_met : Result (Option C.Record) Refusal → Said
+said_met answer = told met_listed answer
 
 pub record Onwards : Type 0 where
   pub says : Said

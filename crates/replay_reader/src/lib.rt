@@ -2,23 +2,24 @@
 // the host lends, and answers each record once. The Rust has nothing of it.
 #![tactic(auto)]
 
-ghost use Rattle.std.specs.Prelude.{◌≡◌, true, ◌≤◌, ◌<◌, ◌+◌, ◌*◌, length, take, drop};
+ghost use Rattle.std.specs.Prelude.{◌≡◌, true, ◌≤◌, ◌<◌, length, drop};
 ghost use Rattle.terms.specs.Answers.{said};
 ghost use Rattle.portions.specs.Fold.{quiet};
 ghost use Rattle.portions.specs.Stops.{until_given, used_before};
 ghost use Rattle.replay_format.specs.Night.{has_place, size_fits};
-ghost use Rattle.replay_format.specs.Bytes.{before_record, in_length, in_data, head_byte, read_night_byte};
+ghost use Rattle.replay_format.specs.Bytes.{before_record, head_byte, read_night_byte};
 ghost use Rattle.replay_reader.specs.Rules.{known_of, reader_rules, night_start};
 ghost use Rattle.replay_reader.specs.ReadOn.{onward_by, read_on_of, onward};
 ghost use Rattle.replay_reader.specs.Finish.{finish_of};
-ghost use Rattle.replay_reader.specs.Steps.{StepsTo};
+ghost use Rattle.replay_reader.specs.Steps.{StepsTo, read_so};
 
-use terms::{Answer, Refusal};
+use terms::Refusal;
 
 // The file's first three bytes.
 const MARK: [u8; 3] = *b"LST";
 
-// The state. A number without a meaning in its phase is 0.
+// The state. A number without a meaning in its phase is 0. Phase and kind are numbers and no enums: the C interface, and refusal 11 is promised of every state
+// that is handed in.
 #[repr(C)]
 #[derive(Clone, Copy)]
 pub struct NightReader {
@@ -33,42 +34,35 @@ pub struct NightReader {
     pub there: usize,
 }
 
-// What read_on answers.
-#[derive(Clone, Copy)]
-pub enum Met {
-    // a record of this kind and length: its data stands at the buffer's front
-    Record(u32, usize),
-    // all bytes are used, and more are wanted
-    More,
-    Refused(Refusal),
+// A record that is complete, of this kind and length: its data stands at the buffer's front.
+#[derive(Clone, Copy, Debug, PartialEq, Eq)]
+pub struct Record {
+    pub kind: u32,
+    pub size: usize,
 }
 
-// The answer, how many bytes of the portion were used, which the host does not offer again, and the reader after the call.
+// The record that was met, or none where all bytes are used and more are wanted; how many bytes of the portion were used, which the host does not offer again;
+// and the reader after the call.
 #[derive(Clone, Copy)]
 pub struct Onward {
-    pub answer: Met,
+    pub answer: Result<Option<Record>, Refusal>,
+    pub used: usize,
+    pub reader: NightReader,
+}
+
+// The same of a call that is not refused.
+#[derive(Clone, Copy)]
+pub struct Reading {
+    pub met: Option<Record>,
     pub used: usize,
     pub reader: NightReader,
 }
 
 // What one byte outside a record's data leads to; a record without data is complete at once.
 #[derive(Clone, Copy)]
-pub enum Stepped {
+pub enum Step {
     Next(NightReader),
     Complete(u32),
-    Refused(Refusal),
-}
-
-fn wide(x: u8) -> usize
-    ensures { (result ≡ x) × (result < 256) }
-{
-    x as usize
-}
-
-fn kind_of(x: u8) -> u32
-    ensures { (result ≡ x) × (result < 256) }
-{
-    x as u32
 }
 
 // Whether a kind may stand here: 0 as the first record, 1 to 6 as any other.
@@ -76,28 +70,23 @@ pub fn has_place(first: bool, kind: u32) -> bool
     ensures { result ≡ has_place first kind }
 {
     if first {
-        return kind == 0;
+        kind == 0
+    } else {
+        1 <= kind && kind <= 6
     }
-    (1 <= kind) & (kind <= 6)
 }
 
 // Whether a kind's data may be so long.
 pub fn size_fits(kind: u32, size: usize) -> bool
     ensures { result ≡ size_fits kind size }
 {
-    if kind == 0 {
-        return size == 28;
+    match kind {
+        0 => size == 28,
+        3 => size == 8,
+        4 => size == 1,
+        5.. => size == 0,
+        _ => true,
     }
-    if kind == 3 {
-        return size == 8;
-    }
-    if kind == 4 {
-        return size == 1;
-    }
-    if 5 <= kind {
-        return size == 0;
-    }
-    true
 }
 
 // A reader at the file's start.
@@ -113,237 +102,197 @@ pub fn start() -> NightReader
 }
 
 // Whether a reader keeps its rules: what every call asks first.
+#[tactic(auto, unfolding(crate::specs::Rules::reader_rules))]
 fn keeps_rules(r: NightReader) -> bool
     ensures { result ≡ reader_rules r }
 {
-    if r.phase == 0 {
-        return (r.kind == 0) & ((r.size == 0) & (r.there <= 4));
+    match r.phase {
+        0 => r.kind == 0 && r.size == 0 && r.there <= 4,
+        1 | 2 => r.kind == 0 && r.size == 0 && r.there == 0,
+        3 => r.kind <= 6 && r.size == 0 && r.there == 0,
+        4 => r.kind <= 6 && r.size < 256 && r.there == 0,
+        5 => r.kind <= 6 && size_fits(r.kind, r.size) && r.size <= 65535 && r.there < r.size,
+        _ => false,
     }
-    if r.phase == 1 {
-        return (r.kind == 0) & ((r.size == 0) & (r.there == 0));
-    }
-    if r.phase == 2 {
-        return (r.kind == 0) & ((r.size == 0) & (r.there == 0));
-    }
-    if r.phase == 3 {
-        return (r.kind <= 6) & ((r.size == 0) & (r.there == 0));
-    }
-    if r.phase == 4 {
-        return (r.kind <= 6) & ((r.size < 256) & (r.there == 0));
-    }
-    if r.phase == 5 {
-        let fits = size_fits(r.kind, r.size);
-        return (r.kind <= 6) & (fits & ((r.size <= 65535) & (r.there < r.size)));
-    }
-    false
 }
 
 // A byte of mark and version, of which so many were there.
-fn head_byte(there: usize, byte: u8) -> Stepped
+#[tactic(auto, unfolding(crate::specs::Rules::reader_rules))]
+fn head_byte(there: usize, byte: u8) -> Result<Step, Refusal>
     requires { there ≤ 4 }
     ensures { StepsTo result (λ _. quiet (head_byte there byte)) }
 {
     if there < 3 {
         if byte != MARK[there] {
-            return Stepped::Refused(Refusal::MarkWrong);
+            return Err(Refusal::MarkWrong);
         }
-        let next = NightReader {
-            phase: 0,
-            kind: 0,
-            size: 0,
+        return Ok(Step::Next(NightReader {
             there: there + 1,
-        };
-        return Stepped::Next(next);
+            ..start()
+        }));
     }
     if there == 3 {
         if byte != 0 {
-            return Stepped::Refused(Refusal::VersionOther);
+            return Err(Refusal::VersionOther);
         }
-        let next = NightReader {
-            phase: 0,
-            kind: 0,
-            size: 0,
+        return Ok(Step::Next(NightReader {
             there: 4,
-        };
-        return Stepped::Next(next);
+            ..start()
+        }));
     }
     if byte != 1 {
-        return Stepped::Refused(Refusal::VersionOther);
+        return Err(Refusal::VersionOther);
     }
-    let next = NightReader {
+    Ok(Step::Next(NightReader {
         phase: 1,
-        kind: 0,
-        size: 0,
-        there: 0,
-    };
-    Stepped::Next(next)
+        ..start()
+    }))
 }
 
 // The kind byte of a record.
-fn kind_byte(first: bool, byte: u8) -> Stepped
+#[tactic(auto, unfolding(crate::specs::Rules::reader_rules))]
+fn kind_byte(first: bool, byte: u8) -> Result<Step, Refusal>
     ensures { StepsTo result (λ _. read_night_byte (before_record first) byte) }
 {
-    let kind = kind_of(byte);
+    let kind = u32::from(byte);
     if !has_place(first, kind) {
-        return Stepped::Refused(Refusal::KindUnknown);
+        return Err(Refusal::KindUnknown);
     }
-    let next = NightReader {
+    Ok(Step::Next(NightReader {
         phase: 3,
-        kind: kind,
-        size: 0,
-        there: 0,
-    };
-    Stepped::Next(next)
+        kind,
+        ..start()
+    }))
 }
 
 // The low byte of a record's length.
-fn length_byte(kind: u32, high: usize, byte: u8) -> Stepped
-    requires { (kind ≤ 6) × (high < 256) }
-    ensures { StepsTo result (λ _. read_night_byte (in_length kind high) byte) }
+#[tactic(auto, unfolding(crate::specs::Rules::reader_rules))]
+fn length_byte(r: NightReader, byte: u8) -> Result<Step, Refusal>
+    requires ruled { reader_rules r ≡ true }
+    requires half { r.phase ≡ 4 }
+    ensures { StepsTo result (λ buffer. read_night_byte (known_of r buffer) byte) }
 {
-    let size = high * 256 + wide(byte);
-    if !size_fits(kind, size) {
-        return Stepped::Refused(Refusal::RecordCut);
+    let size = r.size * 256 + usize::from(byte);
+    if !size_fits(r.kind, size) {
+        return Err(Refusal::RecordCut);
     }
     if size == 0 {
-        return Stepped::Complete(kind);
+        return Ok(Step::Complete(r.kind));
     }
-    let next = NightReader {
+    Ok(Step::Next(NightReader {
         phase: 5,
-        kind: kind,
-        size: size,
-        there: 0,
-    };
-    Stepped::Next(next)
+        size,
+        ..r
+    }))
 }
 
 // A byte outside a record's data.
-fn byte_read(r: NightReader, byte: u8) -> Stepped
-    requires { (reader_rules r ≡ true) × (r.phase < 5) }
+#[tactic(auto, unfolding(crate::specs::Rules::reader_rules))]
+fn byte_read(r: NightReader, byte: u8) -> Result<Step, Refusal>
+    requires ruled { reader_rules r ≡ true }
+    requires outside { r.phase < 5 }
     ensures { StepsTo result (λ buffer. read_night_byte (known_of r buffer) byte) }
 {
-    if r.phase == 0 {
-        return head_byte(r.there, byte);
-    }
-    if r.phase == 1 {
-        return kind_byte(true, byte);
-    }
-    if r.phase == 2 {
-        return kind_byte(false, byte);
-    }
-    if r.phase == 3 {
-        let high = wide(byte);
-        let next = NightReader {
+    match r.phase {
+        0 => head_byte(r.there, byte),
+        1 => kind_byte(true, byte),
+        2 => kind_byte(false, byte),
+        3 => Ok(Step::Next(NightReader {
             phase: 4,
-            kind: r.kind,
-            size: high,
-            there: 0,
-        };
-        return Stepped::Next(next);
+            size: usize::from(byte),
+            ..r
+        })),
+        _ => length_byte(r, byte),
     }
-    length_byte(r.kind, r.size, byte)
 }
 
-// Within the data of a record of which there bytes are there: copies as many of the portion's bytes from at on as it lacks, or as there are. A path answer is
-// tested before it is copied. `whole` is the reader that the call was given, which a refusal leaves.
-fn fill(
-    whole: NightReader,
-    kind: u32,
-    size: usize,
-    there: usize,
-    portion: &[u8],
-    at: usize,
-    buffer: &mut [u8],
-) -> Onward
-    requires { (there < size) × (size ≤ length buffer.old) × (at ≤ length portion.now) × (size_fits kind size ≡ true) }
-    ensures { onward result buffer.new
-        ≡ onward_by whole buffer.old
-        (used_before at (until_given read_night_byte (in_data kind size (take there buffer.old)) (drop at portion.now))) }
+// Within the data of a record: copies as many of the portion's bytes from at on as it lacks, or as there are. A path answer is tested before it is copied.
+#[tactic(auto, unfolding(crate::specs::Rules::reader_rules, crate::specs::ReadOn::onward_by))]
+fn fill(r: NightReader, portion: &[u8], at: usize, buffer: &mut [u8]) -> Result<Reading, Refusal>
+    requires ruled { reader_rules r ≡ true }
+    requires within { r.phase ≡ 5 }
+    requires roomy { 65538 ≤ length buffer.old }
+    requires inside { at < length portion.now }
+    ensures { (whole : NightReader) → read_so whole result buffer.new
+        ≡ onward_by whole buffer.old (used_before at (until_given read_night_byte (known_of r buffer.old) (drop at portion.now))) }
 {
-    let lacks = size - there;
-    let given = portion.len() - at;
-    if given < lacks {
-        wire::put_bytes(&mut buffer[there..], &portion[at..]);
-        let unfinished = NightReader {
-            phase: 5,
-            kind: kind,
-            size: size,
-            there: there + given,
-        };
-        return Onward {
-            answer: Met::More,
-            used: portion.len(),
-            reader: unfinished,
-        };
+    if r.kind == 4 && portion[at] > 1 {
+        return Err(Refusal::RecordCut);
     }
-    if kind == 4 {
-        if portion[at] > 1 {
-            return Onward {
-                answer: Met::Refused(Refusal::RecordCut),
-                used: 0,
-                reader: whole,
-            };
-        }
+    let lacks = r.size - r.there;
+    let count = lacks.min(portion.len() - at);
+    let end = at + count;
+    wire::put_bytes(&mut buffer[r.there..], &portion[at..end]);
+    if count < lacks {
+        let reader = NightReader {
+            there: r.there + count,
+            ..r
+        };
+        return Ok(Reading {
+            met: None,
+            used: end,
+            reader,
+        });
     }
-    let end = at + lacks;
-    wire::put_bytes(&mut buffer[there..], &portion[at..end]);
-    let after = NightReader {
-        phase: 2,
-        kind: 0,
-        size: 0,
-        there: 0,
-    };
-    Onward {
-        answer: Met::Record(kind, size),
+    Ok(Reading {
+        met: Some(Record {
+            kind: r.kind,
+            size: r.size,
+        }),
         used: end, // with the byte that completes it
-        reader: after,
-    }
+        reader: NightReader {
+            phase: 2,
+            ..start()
+        },
+    })
 }
 
 // What a reader that keeps its rules makes of a portion: byte by byte up to a record's data, and then all of that at once.
-fn go_on(whole: NightReader, portion: &[u8], buffer: &mut [u8]) -> Onward
-    requires { (reader_rules whole ≡ true) × (65538 ≤ length buffer.old) }
-    ensures { onward result buffer.new
+#[tactic(auto, unfolding(crate::specs::Rules::reader_rules, crate::specs::ReadOn::onward_by))]
+fn go_on(whole: NightReader, portion: &[u8], buffer: &mut [u8]) -> Result<Reading, Refusal>
+    requires ruled { reader_rules whole ≡ true }
+    requires roomy { 65538 ≤ length buffer.old }
+    ensures { read_so whole result buffer.new
         ≡ onward_by whole buffer.old (until_given read_night_byte (known_of whole buffer.old) portion.now) }
 {
-    let mut r = whole;
-    let mut at = 0;
-    while at < portion.len() {
-        if r.phase == 5 {
-            return fill(whole, r.kind, r.size, r.there, portion, at, buffer);
+    let mut reader = whole;
+    for (at, &byte) in portion.iter().enumerate() {
+        if reader.phase == 5 {
+            return fill(reader, portion, at, buffer);
         }
-        match byte_read(r, portion[at]) {
-            Stepped::Refused(why) => {
-                return Onward {
-                    answer: Met::Refused(why),
-                    used: 0, // of a refused call
-                    reader: whole, // as it was
-                };
-            }
-            Stepped::Complete(kind) => {
-                let after = NightReader {
-                    phase: 2,
-                    kind: 0,
-                    size: 0,
-                    there: 0,
-                };
-                return Onward {
-                    answer: Met::Record(kind, 0),
+        match byte_read(reader, byte)? {
+            Step::Next(next) => reader = next,
+            Step::Complete(kind) => {
+                return Ok(Reading {
+                    met: Some(Record { kind, size: 0 }),
                     used: at + 1,
-                    reader: after,
-                };
-            }
-            Stepped::Next(next) => {
-                r = next;
-                at += 1;
+                    reader: NightReader {
+                        phase: 2,
+                        ..start()
+                    },
+                });
             }
         }
     }
-    Onward {
-        answer: Met::More,
-        used: at,
-        reader: r,
+    Ok(Reading {
+        met: None,
+        used: portion.len(),
+        reader,
+    })
+}
+
+// The same of any reader and buffer.
+#[tactic(auto, unfolding(crate::specs::ReadOn::read_on_of))]
+fn read_piece(reader: NightReader, portion: &[u8], buffer: &mut [u8]) -> Result<Reading, Refusal>
+    ensures { read_so reader result buffer.new ≡ read_on_of reader portion.now buffer.old }
+{
+    if !keeps_rules(reader) {
+        return Err(Refusal::StateBroken);
     }
+    if buffer.len() < 65538 {
+        return Err(Refusal::SizeWrong);
+    }
+    go_on(reader, portion, buffer)
 }
 
 // Reads on in a portion of the file, of any length, none too. It stops behind the first complete record, whose data then stands at the buffer's front, and the
@@ -351,38 +300,32 @@ fn go_on(whole: NightReader, portion: &[u8], buffer: &mut [u8]) -> Onward
 pub fn read_on(reader: NightReader, portion: &[u8], buffer: &mut [u8]) -> Onward
     ensures { onward result buffer.new ≡ read_on_of reader portion.now buffer.old }
 {
-    if !keeps_rules(reader) {
-        return Onward {
-            answer: Met::Refused(Refusal::StateBroken),
-            used: 0,
-            reader: reader,
-        };
+    match read_piece(reader, portion, buffer) {
+        Ok(reading) => Onward {
+            answer: Ok(reading.met),
+            used: reading.used,
+            reader: reading.reader,
+        },
+        Err(why) => Onward {
+            answer: Err(why),
+            used: 0, // of a refused call
+            reader, // as it was
+        },
     }
-    if buffer.len() < 65538 {
-        return Onward {
-            answer: Met::Refused(Refusal::SizeWrong),
-            used: 0,
-            reader: reader,
-        };
-    }
-    go_on(reader, portion, buffer)
 }
 
 // What the end of the file says: 26 or 27 where it came within mark or version, 29 within a record or before the first.
-pub fn finish(reader: NightReader) -> Answer
+#[tactic(auto, unfolding(crate::specs::Finish::finish_of, crate::specs::Rules::reader_rules))]
+pub fn finish(reader: NightReader) -> Result<(), Refusal>
     ensures { said result ≡ finish_of reader }
 {
     if !keeps_rules(reader) {
-        return Answer::Refused(Refusal::StateBroken);
+        return Err(Refusal::StateBroken);
     }
-    if reader.phase == 0 {
-        if reader.there < 3 {
-            return Answer::Refused(Refusal::MarkWrong);
-        }
-        return Answer::Refused(Refusal::VersionOther);
+    match reader.phase {
+        0 if reader.there < 3 => Err(Refusal::MarkWrong),
+        0 => Err(Refusal::VersionOther),
+        2 => Ok(()),
+        _ => Err(Refusal::RecordCut),
     }
-    if reader.phase == 2 {
-        return Answer::Done;
-    }
-    Answer::Refused(Refusal::RecordCut)
 }

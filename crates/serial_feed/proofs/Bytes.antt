@@ -6,17 +6,8 @@ use native.Mathlib.Omega.{arith}
 use borrow.Author.Tests.{eq-eqb, ne_eqb}
 use lib.ListN.{length, take, length-append}
 use lib.Seq.{append_snoc}
-use Rattle.portions.specs.Stops.{OneCall, used_before, until_given}
+use Rattle.portions.specs.Stops.{until_given}
 use Rattle.serial_state.specs.Frames.{idle, within, stopped, read_byte}
-
-pub used_none : {State Given : Type 0} (reading : OneCall State Given) → used_before 0 reading ≡ reading
-used_none reading = let e : 0 + reading.used ≡ reading.used = omega arith in λ k. record { gave = reading.gave; used = e k; state = reading.state }
-
-pub used_one : {State Given : Type 0} (reading : OneCall State Given) → used_before 1 reading ≡ record { gave = reading.gave; used = suc reading.used; state = reading.state }
-used_one reading = let e : 1 + reading.used ≡ suc reading.used = omega arith in λ k. record { gave = reading.gave; used = e k; state = reading.state }
-
-pub used_two : {State Given : Type 0} (reading : OneCall State Given) → used_before 2 reading ≡ record { gave = reading.gave; used = suc (suc reading.used); state = reading.state }
-used_two reading = let e : 2 + reading.used ≡ suc (suc reading.used) = omega arith in λ k. record { gave = reading.gave; used = e k; state = reading.state }
 
 module _ (room : ℕ) where
   -- a reader that has stopped stays so

@@ -1,22 +1,23 @@
 -- What feed does, whatever it is given: its answer, how many bytes of the portion it used, and what it leaves of the reader and of the buffer.
-use Rattle.std.specs.Prelude.{ℕ, not, List, [], ◌∷◌, eqb, length}
-use Rattle.terms.specs.Refusals.{number_of}
+use Rattle.std.specs.Prelude.{ℕ, not, List, [], ◌∷◌, eqb, length, Result, Option, Some, None}
+use Rattle.terms.specs.declared.Refusal.{Refusal}
 use Rattle.terms.specs.Ladder.{◌when◌else◌}
 use Rattle.terms.specs.Lists.{◌at_front_of◌}
-use Rattle.terms.specs.Answers.{Said, refusal, values}
+use Rattle.terms.specs.Answers.{Said, refusal, values, told}
 use Rattle.portions.specs.Stops.{OneCall, until_given}
 use Rattle.serial_state.specs.Frames.{Coming, stopped, is_stopped, read_byte}
 use Rattle.serial_state.specs.Rules.{coming_of, reader_of, there_in, line_rules}
 use Rattle.serial_state.specs.declared.LineReader.{LineReader}
 use Rattle.serial_feed.specs.declared.Fed.{Fed}
-use Rattle.serial_feed.specs.declared.Heard.{Heard}
-use Rattle.serial_feed.specs.declared.Heard.TheVariants as H
+
+-- a number, where there is one
+abbrev pub listed : Option ℕ → List ℕ
+listed (Some number) = number ∷ []
+listed None = []
 
 -- the number of a refusal; else the length of the packet at the buffer's front, or nothing where more is wanted
-abbrev pub heard_said : Heard → Said
-heard_said (H.Packet size) = values (size ∷ [])
-heard_said H.More = values []
-heard_said (H.Refused why) = refusal (number_of why)
+abbrev pub heard_said : Result (Option ℕ) Refusal → Said
+heard_said answer = told listed answer
 
 pub record Feeds : Type 0 where
   pub says : Said

@@ -1,16 +1,16 @@
 -- Lines of frames: a frame gives its packet, and a reader that has stopped stays so. Assumes nothing.
 use Prim.Native.Nat.{ℕ, suc, ◌+◌, ◌*◌, ◌/◌, ◌%◌, ◌≤◌}
 use mathlib.Core.Path.{◌≡◌, refl, ap, ◌∙◌}
-use mathlib.Core.Bool.{true, ◌&&◌}
+use mathlib.Core.Bool.{true, false}
 use mathlib.Core.List.{List, [], ◌∷◌, ◌++◌, append_assoc}
 use native.Mathlib.Omega.{arith}
-use borrow.Author.Tests.{leb-true, le-ltb, eq-eqb, ne_eqb}
-use lib.Dec.{leb}
+use borrow.Author.Tests.{eq-eqb, ne_eqb}
 use lib.ListN.{length, length-append}
 use lib.Seq.{append_snoc}
+use Rattle.std.proofs.lemmas.Grind.{common_steps}
 use Rattle.terms.proofs.Laws.{and_left, and_right}
 use Rattle.portions.specs.Fold.{quiet, behind, read_all}
-use Rattle.serial_state.specs.Frames.{idle, within, stopped, read_byte, framed, line_of, fits_line, all_fit_line}
+use Rattle.serial_state.specs.Frames.{idle, within, stopped, is_unfit, read_byte, framed, line_of, fits_line, all_fit_line}
 
 module _ (room : ℕ) where
   pub stays : (bytes : List ℕ) → read_all (read_byte room) stopped bytes ≡ quiet stopped
@@ -30,10 +30,10 @@ module _ (room : ℕ) where
   one_frame : (packet rest : List ℕ) → fits_line room packet ≡ true
       → read_all (read_byte room) idle (framed packet ++ rest) ≡ behind (packet ∷ []) (read_all (read_byte room) idle rest)
   one_frame packet rest h =
-      let low = leb-true 22 (length packet) (and_left (leb 22 (length packet)) (leb (length packet) room && leb (length packet) 65535) h) in
-      let high = leb-true (length packet) room (and_left (leb (length packet) room) (leb (length packet) 65535) (and_right (leb 22 (length packet)) (leb (length packet) room && leb (length packet) 65535) h)) in
+      let low : 22 ≤ length packet = grind (arith, common_steps) in
+      let fits : is_unfit room (length packet) ≡ false = grind (arith, common_steps) in
       let back : length packet / 256 * 256 + length packet % 256 ≡ length packet = omega arith in
-      rw (back, le-ltb (length packet) 22 low, le-ltb room (length packet) high) (go packet low)
+      rw (back, fits) (go packet low)
     where
       go : (p : List ℕ) → 22 ≤ length p → read_all (read_byte room) (within (length p) []) (p ++ rest) ≡ behind (p ∷ []) (read_all (read_byte room) idle rest)
       go [] l = absurd (omega arith)

@@ -1,4 +1,3 @@
--- The ways out of the check (Ways), what the rules say as facts (Facts), and that the promises determine their results (Determined).
-pub mod Ways
+-- What the rules say of a reader (Facts), and that the promises determine their results (Determined).
 pub mod Facts
 pub mod Determined

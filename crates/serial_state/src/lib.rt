@@ -7,6 +7,7 @@ ghost use Rattle.serial_state.specs.Rules.{line_rules};
 ghost use Rattle.serial_state.specs.Start.{line_start};
 
 // The state. The bytes that are there of an unfinished packet stand at the front of a buffer that the host lends. A number without a meaning in its phase is 0.
+// The phase is a number and no enum: the C interface, and refusal 11 is promised of every state that is handed in.
 #[repr(C)]
 #[derive(Clone, Copy)]
 pub struct LineReader {
@@ -36,21 +37,14 @@ pub fn start(buffer: &[u8]) -> LineReader
 }
 
 // Whether a reader keeps its rules: what every call asks first.
+#[tactic(auto, unfolding(crate::specs::Rules::line_rules))]
 pub fn keeps_rules(r: LineReader) -> bool
     ensures { result ≡ line_rules r }
 {
-    if r.phase == 0 {
-        return (r.high == 0) & ((r.size == 0) & (r.there == 0));
+    match r.phase {
+        0 | 3 => r.high == 0 && r.size == 0 && r.there == 0,
+        1 => r.high < 256 && r.size == 0 && r.there == 0,
+        2 => r.high == 0 && 22 <= r.size && r.size <= r.room && r.size <= 65535 && r.there < r.size,
+        _ => false,
     }
-    if r.phase == 1 {
-        return (r.high < 256) & ((r.size == 0) & (r.there == 0));
-    }
-    if r.phase == 2 {
-        return (r.high == 0)
-            & ((22 <= r.size) & ((r.size <= r.room) & ((r.size <= 65535) & (r.there < r.size))));
-    }
-    if r.phase == 3 {
-        return (r.high == 0) & ((r.size == 0) & (r.there == 0));
-    }
-    false
 }

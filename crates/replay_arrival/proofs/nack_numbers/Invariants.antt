@@ -1,10 +1,7 @@
--- `replay_arrival::nack_numbers` meets its contract: the numbers listed so far, and behind them those that are left, are all. Assumes nothing.
-use Prim.Native.Nat.{◌-◌}
-use Rattle.replay_arrival.proofs.Ways.{Listed}
+-- `replay_arrival::nack_numbers` meets its contract: so many numbers are listed. Assumes nothing.
+use Rattle.std.proofs.Common.{◌≡◌, take}
+use Rattle.wire.specs.BigEndian.{numbers_at}
 use Rattle.replay_arrival.proofs.nack_numbers.Given as goal
 
 abbrev pub invariant-loop-i : goal.invariant-loop-i
-invariant-loop-i l = Listed l.packet l.initial.numbers l.numbers l.count l.i
-
-abbrev pub decreases-loop-i : goal.decreases-loop-i
-decreases-loop-i l = l.count - l.i
+invariant-loop-i l = take l.i l.numbers ≡ numbers_at 4 l.i 17 l.packet

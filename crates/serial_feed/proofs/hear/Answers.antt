@@ -1,45 +1,23 @@
--- `serial_feed::hear` meets its contract: a way out for each phase, and for portions of none, one and more bytes. Assumes nothing.
+-- `serial_feed::hear` meets its contract: a reader that has stopped stays so. Assumes nothing.
+use mathlib.Core.Path.{◌≡◌}
 use native.Mathlib.Omega.{arith}
-use Rattle.serial_feed.proofs.Ways.{within_facts, half_fact, hears_stopped, hears_within, hears_nothing, hears_low, hears_high, hears_length}
+use Rattle.std.proofs.lemmas.Grind.{common_steps}
+use Rattle.serial_state.specs.Frames.{stopped}
+use Rattle.serial_state.specs.Rules.{coming_of, line_rules}
+use Rattle.serial_feed.specs.Feed.{heard_by}
+use Rattle.serial_feed.proofs.Bytes.{until_stopped}
 use Rattle.serial_feed.proofs.hear.Goals as goal
 
 pub returns-then-r-eq3 : goal.returns-then-r-eq3
-returns-then-r-eq3 c = let a = c.args in
-    hears_stopped a.r a.buffer.now a.portion.now c.requires.0 c.requires.1 (omega arith)
+unfolding line_rules heard_by
+returns-then-r-eq3 c =
+    let known : coming_of c.args.r c.args.buffer.now ≡ stopped = grind (arith, common_steps) in
+    rw (known, until_stopped) (grind (arith, common_steps))
 
-pub fill-requires : goal.fill-requires
-fill-requires c = let a = c.args in
-    let u = within_facts a.r a.buffer.now c.requires.0 c.requires.1 (omega arith) in
-    (u.less, omega (arith, u.fits), omega arith)
+pub returns-in-len1-up : goal.returns-in-len1-up
+unfolding line_rules
+returns-in-len1-up c = let m = rw c.requires.own at c.measured.ensures in grind (arith, common_steps)
 
-pub returns-then-r-eq2 : goal.returns-then-r-eq2
-returns-then-r-eq2 c = let a = c.args in
-    hears_within a.r a.buffer.now a.portion.now c.requires.0 c.requires.1 (omega arith) _ c.fill.ensures
-
-pub returns-then-portion-eq0 : goal.returns-then-portion-eq0
-returns-then-portion-eq0 c = let a = c.args in
-    hears_nothing a.r a.buffer.now a.portion.now c.requires.0 c.requires.1 (omega arith) (omega arith) (omega arith)
-
-pub overflow_mul-size : goal.overflow_mul-size
-overflow_mul-size c = let a = c.args in
-    let u = half_fact a.r a.buffer.now c.requires.0 c.requires.1 (omega arith) in
-    omega arith
-
-pub overflow_add-size : goal.overflow_add-size
-overflow_add-size c = let a = c.args in
-    let u = half_fact a.r a.buffer.now c.requires.0 c.requires.1 (omega arith) in
-    omega arith
-
-pub returns-then-r-eq1 : goal.returns-then-r-eq1
-returns-then-r-eq1 c = let a = c.args in
-    hears_low a.r a.buffer.now a.portion.now c.requires.0 c.requires.1 (omega arith) (omega arith) c.wide-first.result c.wide-first.ensures.0 _
-    c.measured.ensures
-
-pub returns-then-portion-eq1 : goal.returns-then-portion-eq1
-returns-then-portion-eq1 c = let a = c.args in
-    hears_high a.r a.buffer.now a.portion.now c.requires.0 c.requires.1 (omega arith) (omega arith) (omega arith) (omega arith) c.wide-first.result c.wide-first.ensures.0
-
-pub returns : goal.returns
-returns c = let a = c.args in
-    hears_length a.r a.buffer.now a.portion.now c.requires.0 c.requires.1 (omega arith) (omega arith) (omega arith) (omega arith)
-    c.wide-first.result c.wide.result c.wide-first.ensures.0 c.wide.ensures.0 _ c.measured-2.ensures
+pub returns-in-len2-up : goal.returns-in-len2-up
+unfolding line_rules
+returns-in-len2-up c = let m = rw c.requires.own at c.measured-in-len2-up.ensures in grind (arith, common_steps)

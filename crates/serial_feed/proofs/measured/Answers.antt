@@ -1,18 +1,15 @@
--- `serial_feed::measured` meets its contract: a length is refused, or its packet is filled from nothing. Assumes nothing.
+-- `serial_feed::measured` meets its contract: a length that is refused stops the reader. Assumes nothing.
+use mathlib.Core.Path.{◌≡◌}
 use native.Mathlib.Omega.{arith}
-use Rattle.serial_feed.proofs.Ways.{length_unfit, length_fits, length_small}
-use lib.ListN.{drop}
+use lib.ListN.{length}
+use Rattle.std.proofs.lemmas.Grind.{common_steps}
+use Rattle.serial_state.specs.Frames.{stopped, after_length}
+use Rattle.serial_feed.specs.Feed.{heard_by}
+use Rattle.serial_feed.proofs.Bytes.{until_stopped}
 use Rattle.serial_feed.proofs.measured.Goals as goal
 
-pub returns-then-size-room : goal.returns-then-size-room
-returns-then-size-room c = let a = c.args in
-    length_unfit a.room a.buffer.now (drop a.at a.portion.now) a.size a.at c.if-size-room.true
-
-pub fill-requires : goal.fill-requires
-fill-requires c = let a = c.args in
-    let u = length_small a.room a.size c.if-size-room.false in
-    (omega (arith, u.0), omega (arith, u.1), omega arith)
-
-pub returns : goal.returns
-returns c = let a = c.args in
-    length_fits a.room a.buffer.now (drop a.at a.portion.now) a.size a.at c.if-size-room.false _ c.fill.ensures
+pub returns-then-size-lt22 : goal.returns-then-size-lt22
+unfolding heard_by
+returns-then-size-lt22 c =
+    let unfit : after_length (length c.args.buffer.now) c.args.size ≡ stopped = grind (arith, common_steps) in
+    rw (unfit, until_stopped) (grind (arith, common_steps))
