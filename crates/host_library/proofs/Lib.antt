@@ -1,3 +1,2 @@
--- What belongs to no one function: an answer in numbers, and that each promise has one result.
-pub mod Answers
+-- What belongs to no one function: that each promise has one result.
 pub mod Determined

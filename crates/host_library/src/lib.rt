@@ -18,7 +18,6 @@ ghost use Rattle.host_serial.specs.Line.{hosted_feed, host_fed};
 
 use host_numbers::{Counted, Fields, Stand};
 use host_serial::LineHeard;
-use packet_read::Reading;
 use receiver_state::Receiver;
 use serial_state::LineReader;
 use terms::{SeqNo, StreamId};
@@ -28,10 +27,7 @@ use terms::{SeqNo, StreamId};
 pub extern "C" fn digitmeadow_read(packet: &[u8]) -> Fields
     ensures { result ≡ hosted_read (read_of packet.now) }
 {
-    match packet_read::read(packet) {
-        Reading::Read(p) => host_numbers::of_packet(p),
-        Reading::Refused(why) => host_numbers::of_refusal(why.number()),
-    }
+    packet_read::read(packet).into()
 }
 
 // Starts a receiver after the number s: `receiver_state::start`, into the state that is lent, which a refused start leaves as it was.
@@ -39,9 +35,7 @@ pub extern "C" fn digitmeadow_read(packet: &[u8]) -> Fields
 pub extern "C" fn digitmeadow_start(r: &mut Receiver, s: SeqNo, slot: u32, store: &[u8]) -> u32
     ensures { with_number result r.new [] ≡ start_for_host r.old (start_of s slot (length store.now)) }
 {
-    let b = host_numbers::begin(*r, s, slot, store);
-    *r = b.state;
-    b.refusal
+    host_numbers::begin(r, s, slot, store)
 }
 
 // Accepts a packet's payload under its number: `receiver_in_place::accept_lent`.
@@ -64,8 +58,7 @@ pub extern "C" fn digitmeadow_accept(
 pub extern "C" fn digitmeadow_take(r: &mut Receiver, store: &[u8], output: &mut [u8]) -> Counted
     ensures { with_count result r.new output.new ≡ for_host (take_of r.old store.now output.old) }
 {
-    let answer = receiver_in_place::take_lent(r, store, output);
-    host_numbers::of_given(answer)
+    receiver_in_place::take_lent(r, store, output).into()
 }
 
 // Writes the plain ack of a receiver: `receiver_ack::acknowledge`.
@@ -78,7 +71,7 @@ pub extern "C" fn digitmeadow_acknowledge(
 ) -> Counted
     ensures { with_output result output.new ≡ ack_for_host (acknowledge_of r.now send recv output.old) }
 {
-    host_numbers::acknowledgement(*r, send, recv, output)
+    host_numbers::acknowledgement(r, send, recv, output)
 }
 
 // Says why a piece is not delivered: `receiver_why::why`.
@@ -86,7 +79,7 @@ pub extern "C" fn digitmeadow_acknowledge(
 pub extern "C" fn digitmeadow_why(r: &Receiver, number: SeqNo) -> Stand
     ensures { result ≡ stand_of (why_of r.now number) }
 {
-    host_numbers::why(*r, number)
+    receiver_why::why(r, number).into()
 }
 
 // Starts a reader of packets on a serial line, over a buffer of any length: `serial_state::start`.

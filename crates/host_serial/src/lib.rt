@@ -5,11 +5,11 @@ ghost use Rattle.std.specs.Prelude.{◌≡◌};
 ghost use Rattle.serial_feed.specs.Feed.{heard_said, feed_of};
 ghost use Rattle.host_serial.specs.Line.{line_heard, hosted_feed, host_fed};
 
-use serial_feed::Heard;
+use serial_feed::Fed;
 use serial_state::LineReader;
 
 // The reader after the call; a refusal's number, or 0; the length of the packet at the buffer's front, 0 where more is wanted; and how many bytes of the
-// portion were used.
+// portion were used. The zeros for none are the C interface's.
 #[repr(C)]
 #[derive(Clone, Copy)]
 pub struct LineHeard {
@@ -19,28 +19,20 @@ pub struct LineHeard {
     pub used: usize,
 }
 
-fn of_heard(answer: Heard, used: usize, reader: LineReader) -> LineHeard
-    ensures { result ≡ line_heard (heard_said answer) used reader }
-{
-    match answer {
-        Heard::Packet(size) => LineHeard {
-            reader: reader,
-            refusal: 0,
-            length: size,
-            used: used,
-        },
-        Heard::More => LineHeard {
-            reader: reader,
-            refusal: 0,
-            length: 0,
-            used: used,
-        },
-        Heard::Refused(why) => LineHeard {
-            reader: reader,
-            refusal: why.number(),
-            length: 0,
-            used: used,
-        },
+impl From<Fed> for LineHeard {
+    ghost from_gives = { λ done heard. heard ≡ line_heard (heard_said done.answer) done.used done.state };
+
+    fn from(done: Fed) -> LineHeard {
+        let (refusal, length) = match done.answer {
+            Ok(size) => (0, size.unwrap_or(0)),
+            Err(why) => (why.number(), 0),
+        };
+        LineHeard {
+            reader: done.state,
+            refusal,
+            length,
+            used: done.used,
+        }
     }
 }
 
@@ -48,8 +40,5 @@ fn of_heard(answer: Heard, used: usize, reader: LineReader) -> LineHeard
 pub fn feed(r: LineReader, portion: &[u8], buffer: &mut [u8]) -> LineHeard
     ensures { host_fed result buffer.new ≡ hosted_feed (feed_of r portion.now buffer.old) }
 {
-    let done = serial_feed::feed(r, portion, buffer);
-    let answer = done.answer;
-    let state = done.state;
-    of_heard(answer, done.used, state)
+    LineHeard::from(serial_feed::feed(r, portion, buffer))
 }

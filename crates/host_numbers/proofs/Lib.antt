@@ -1,2 +1,0 @@
--- What belongs to no one function: what a start leaves after its answer.
-pub mod Starts
