@@ -1,49 +1,40 @@
 // The calls 'x', 'g', 'f' and 'm': a sample of the round-trip time, the window's two steps, and the Rust's own smoothing.
-use program_script::registers;
-use program_script::registers::Bank;
-use timer::Timing;
-use timer_float::Smoothed;
+use drive_state::{Registers, given};
+use program_script::answer::code;
+use timer::Sampled;
 
-// The timing that the call gives: unsampled, or sampled with two numbers.
-fn given(bank: &Bank) -> Timing {
-    let rtt = registers::word32(bank, 1);
-    let deviation = registers::word32(bank, 2);
-    if registers::value(bank, 0) == 0 {
-        return Timing::Unsampled;
-    }
-    Timing::Sampled {
-        rtt: rtt,
-        deviation: deviation,
-    }
+fn sample(registers: &mut Registers) {
+    let before = given::timing(&registers.asked, 0);
+    let after = Sampled::sampled(before, registers.asked.word32(3));
+    let (rtt, deviation) = match after {
+        Some(times) => (times.rtt, times.deviation),
+        None => (0, 0),
+    };
+    let numbers = [u64::from(rtt), u64::from(deviation), Sampled::rto(after)];
+    registers.answer.tell(&numbers);
 }
 
-fn sample(bank: &mut Bank) {
-    let sample = registers::word32(bank, 3);
-    let after = given(bank).sampled(sample);
-    let rto = after.rto();
-    match after {
-        Timing::Unsampled => registers::answer3(bank, 0, 0, rto),
-        Timing::Sampled { rtt, deviation } => {
-            registers::answer3(bank, rtt as u64, deviation as u64, rto)
-        }
-    }
+fn smooth(registers: &mut Registers) {
+    let old = registers.asked.value(0);
+    let sample = registers.asked.value(1);
+    let said = timer_float::smooth_float(old, sample);
+    registers.answer.tell(&[code(&said), said.unwrap_or(0)]);
 }
 
-fn smooth(bank: &mut Bank) {
-    let old = registers::value(bank, 0);
-    let sample = registers::value(bank, 1);
-    match timer_float::smooth_float(old, sample) {
-        Smoothed::Time(time) => registers::answer2(bank, 0, time),
-        Smoothed::Refused(r) => registers::answer2(bank, r.number() as u64, 0),
-    }
+// A step of the window answers it alone.
+fn step(registers: &mut Registers, letter: u8) {
+    let window = registers.asked.word32(0);
+    let after = match letter {
+        b'g' => timer::window_grown(window),
+        _ => timer::window_fallen(window),
+    };
+    registers.answer.tell(&[u64::from(after)]);
 }
 
-pub fn call(bank: &mut Bank, letter: u8) {
-    let window = registers::word32(bank, 0);
+pub fn call(registers: &mut Registers, letter: u8) {
     match letter {
-        b'x' => sample(bank),
-        b'm' => smooth(bank),
-        b'g' => registers::answer(bank, timer::window_grown(window) as u64),
-        _ => registers::answer(bank, timer::window_fallen(window) as u64),
+        b'x' => sample(registers),
+        b'm' => smooth(registers),
+        _ => step(registers, letter),
     }
 }

@@ -1,124 +1,122 @@
 // Tells what a call answered, in one line, as its row of the table says: its word, its numbers, the state after it, and the checksum of what was lent.
-// What puts a part of the line at a place answers the place behind it.
-use super::output::Page;
-use super::table::SIZE;
-use super::{input, output, table};
-use program_script::registers;
-use program_script::registers::{ANSWERS, Bank, COUNT, LINE, MARKS, PLACES, RECEIVER, SENDER, SUM};
+ghost use Rattle.std.specs.Prelude.{◌<◌};
 
-// Whether the numbers from a place on are all 0, width of them.
-fn blank(bank: &Bank, from: usize, width: usize) -> bool {
-    let mut i = 0;
-    while i < width {
-        if registers::value(bank, from % 65536 + i % 65536) != 0 {
-            return false;
+use super::table::Row;
+use drive_state::Registers;
+use receiver_state::Head;
+use sender_state::Sender;
+use serial_state::LineReader;
+use std::fmt;
+use std::fmt::{Display, Formatter};
+
+// The line of a call.
+#[derive(Drop)]
+pub struct Line<'a> {
+    pub row: Row,
+    pub registers: &'a Registers,
+}
+
+// Each number behind a space.
+fn numbers<W: fmt::Write>(f: &mut Formatter<W>, all: &[u64]) -> fmt::Result {
+    for x in all {
+        write!(f, " {x}")?;
+    }
+    Ok(())
+}
+
+fn head<W: fmt::Write>(f: &mut Formatter<W>, h: &Head) -> fmt::Result {
+    write!(f, " {} {} {} {}", h.slot, h.start.0, h.next.0, h.highest.0)
+}
+
+// How many marks are not 0, and each of these behind its index.
+fn marks<W: fmt::Write>(f: &mut Formatter<W>, marks: &[u16; 512]) -> fmt::Result {
+    let held = marks.iter().filter(|mark| **mark != 0).count();
+    write!(f, " {held}")?;
+    for (i, mark) in marks.iter().enumerate() {
+        if *mark != 0 {
+            write!(f, " {i} {mark}")?;
         }
-        i += 1;
     }
-    true
+    Ok(())
 }
 
-// How many of the rows from a place on are not blank, a row being width numbers.
-fn filled(bank: &Bank, from: usize, rows: usize, width: usize) -> u64 {
-    let mut n: u64 = 0;
-    let mut i: u64 = rows as u64;
-    let mut place = from;
-    while i > 0 {
-        if !blank(bank, place, width) {
-            n = n % 65536 + 1;
+fn sampled<W: fmt::Write>(f: &mut Formatter<W>, s: &Sender) -> fmt::Result {
+    match s.timing {
+        None => write!(f, " 0 0 0"),
+        Some(t) => write!(f, " 1 {} {}", t.rtt, t.deviation),
+    }
+}
+
+fn armed<W: fmt::Write>(f: &mut Formatter<W>, s: &Sender) -> fmt::Result {
+    match s.timer {
+        None => write!(f, " 0 0"),
+        Some(at) => write!(f, " 1 {at}"),
+    }
+}
+
+// What a place holds.
+fn place(s: &Sender, i: usize) -> [u64; 5]
+    requires { i < 192 }
+{
+    [
+        u64::from(s.numbers[i]),
+        u64::from(s.lengths[i]),
+        s.sent[i],
+        u64::from(s.marks[i]),
+        u64::from(s.resent[i]),
+    ]
+}
+
+// How many places hold something, and each of these behind its index.
+fn places<W: fmt::Write>(f: &mut Formatter<W>, s: &Sender) -> fmt::Result {
+    let filled = (0..192).filter(|i| place(s, *i) != [0; 5]).count();
+    write!(f, " {filled}")?;
+    for i in 0..192 {
+        let held = place(s, i);
+        if held != [0; 5] {
+            write!(f, " {i}")?;
+            numbers(f, &held)?;
         }
-        place = place % 65536 + width % 65536;
-        i -= 1;
     }
-    n
+    Ok(())
 }
 
-// A row's index and its numbers, where it is not blank.
-fn row(page: &mut Page, at: usize, bank: &Bank, from: usize, i: usize, width: usize) -> usize {
-    if blank(bank, from, width) {
-        return at;
-    }
-    let end = output::number(page, at, i as u64);
-    output::numbers(page, end, bank, from, width)
+fn sender<W: fmt::Write>(f: &mut Formatter<W>, s: &Sender) -> fmt::Result {
+    write!(f, " {} {} {} {}", s.chunk, s.count, s.next.0, s.window)?;
+    sampled(f, s)?;
+    armed(f, s)?;
+    write!(f, " {}", s.clock)?;
+    places(f, s)
 }
 
-// How many rows are not blank, and these.
-fn rows(page: &mut Page, at: usize, bank: &Bank, from: usize, rows: usize, width: usize) -> usize {
-    let mut end = output::number(page, at, filled(bank, from, rows, width));
-    let mut place = from;
-    let mut i = 0;
-    while i < rows {
-        end = row(page, end, bank, place, i, width);
-        place = place % 65536 + width % 65536;
-        i += 1;
-    }
-    end
-}
-
-fn receiver(page: &mut Page, at: usize, bank: &Bank) -> usize {
-    let end = output::numbers(page, at, bank, RECEIVER, 4);
-    rows(page, end, bank, MARKS, 512, 1)
-}
-
-fn sender(page: &mut Page, at: usize, bank: &Bank) -> usize {
-    let end = output::numbers(page, at, bank, SENDER, 10);
-    rows(page, end, bank, PLACES, 192, 5)
+fn reader<W: fmt::Write>(f: &mut Formatter<W>, r: &LineReader) -> fmt::Result {
+    write!(
+        f,
+        " {} {} {} {} {}",
+        r.room, r.phase, r.high, r.size, r.there
+    )
 }
 
 // What stands behind the numbers of an answer, by its mark in the table.
-fn part(page: &mut Page, at: usize, bank: &Bank, told: u8) -> usize {
+fn part<W: fmt::Write>(f: &mut Formatter<W>, registers: &Registers, told: u8) -> fmt::Result {
     match told {
-        b'R' => receiver(page, at, bank),
-        b'P' => sender(page, at, bank),
-        b'L' => output::numbers(page, at, bank, LINE, 5),
-        _ => output::numbers(page, at, bank, SUM, 1),
-    }
-}
-
-// The parts that the table has from a place on.
-fn parts(page: &mut Page, at: usize, bank: &Bank, told: usize) -> usize {
-    let mut end = at;
-    let mut i = 0;
-    while i < SIZE {
-        let mark = table::at(told % 65536 + i);
-        if mark == b'\n' {
-            return output::byte(page, end, mark);
+        b'R' => {
+            head(f, &registers.receiver.head)?;
+            marks(f, &registers.receiver.marks)
         }
-        end = part(page, end, bank, mark);
-        i += 1;
+        b'P' => sender(f, &registers.sender),
+        b'L' => reader(f, &registers.reader),
+        _ => write!(f, " {}", registers.answer.sum),
     }
-    end
 }
 
-// The word that the table has from a place on, at the page's front.
-fn word(page: &mut Page, word: usize) -> usize {
-    let mut end = 0;
-    let mut i = 0;
-    while i < SIZE {
-        let letter = table::at(word % 65536 + i);
-        if letter == b' ' {
-            return end;
+impl Display for Line<'_> {
+    fn fmt<W: fmt::Write>(&self, f: &mut Formatter<W>) -> fmt::Result {
+        f.write_str(self.row.word)?;
+        numbers(f, self.registers.answer.numbers.as_slice())?;
+        for told in self.row.tells.bytes() {
+            part(f, self.registers, told)?;
         }
-        end = output::byte(page, end, letter);
-        i += 1;
-    }
-    end
-}
-
-fn line(page: &mut Page, bank: &Bank, letter: u8) -> usize {
-    let begin = table::word(letter);
-    let told = table::after(table::after(begin));
-    let end = word(page, begin);
-    let n = registers::length(bank, COUNT);
-    let next = output::numbers(page, end, bank, ANSWERS, n);
-    parts(page, next, bank, told)
-}
-
-// The line of a call. Where it cannot be written, the script ends as a bad one does.
-pub fn call(bank: &mut Bank, letter: u8) {
-    let mut page = [0u8; output::SIZE];
-    let n = line(&mut page, bank, letter);
-    if !output::write(&page, n) {
-        input::spoil(bank);
+        f.write_str("\n")
     }
 }

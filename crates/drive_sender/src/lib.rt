@@ -2,87 +2,59 @@
 // The state and what a call asks stand in the registers, and its answer goes there. The calls that move packets are in `drive_stored`.
 #![tactic(auto)]
 
-use drive_state::tell;
+use drive_state::{Registers, given};
 use program_lines::part;
-use program_script::registers;
-use program_script::registers::{Bank, COUNT, SENDER, SENDER_STORE, Store};
+use program_script::answer::code;
 use terms::SeqNo;
 
-fn start(bank: &mut Bank, store: &[u8]) {
-    let first = SeqNo(registers::word32(bank, 0));
-    let chunk = registers::word32(bank, 1);
-    let count = registers::word32(bank, 2);
-    let done = sender_state::start(first, chunk, count, store);
-    let after = done.state;
-    let said = done.answer;
-    drive_state::keep(bank, after);
-    tell::answer(bank, said);
+fn start(registers: &mut Registers) {
+    let asked = &registers.asked;
+    let first = SeqNo(asked.word32(0));
+    let store = registers.sent.as_slice();
+    let started = sender_state::start(first, asked.word32(1), asked.word32(2), store);
+    registers.sender = started.state;
+    registers.answer.tell(&[code(&started.answer)]);
 }
 
-// The state that the call gives stands in its first ten fields, and its places are there already. The unused numbers of an unsampled timing and
-// of an unarmed timer become 0.
-fn set(bank: &mut Bank) {
-    registers::copy(bank, 0, SENDER, 10);
-    let s = drive_state::given(bank);
-    drive_state::keep(bank, s);
-    bank[COUNT] = 0;
+// The places that the call gives are there already.
+fn set(registers: &mut Registers) {
+    registers.sender = given::sender(&registers.asked, &registers.sender);
+    registers.answer.tell(&[]);
 }
 
-fn valid(bank: &mut Bank) {
-    let s = drive_state::given(bank);
-    if sender_check::valid(s) {
-        registers::answer(bank, 1);
-    } else {
-        registers::answer(bank, 0);
-    }
+fn valid(registers: &mut Registers) {
+    let valid = sender_check::valid(&registers.sender);
+    registers.answer.tell(&[u64::from(valid)]);
 }
 
-fn acks(bank: &mut Bank) {
-    let through = SeqNo(registers::word32(bank, 0));
-    let n = registers::length(bank, 1);
-    let clock = registers::value(bank, 2);
-    let nacks = registers::nacks(bank);
-    let s = drive_state::given(bank);
-    let done = sender_acks::acks(s, through, part::front32(&nacks, n), clock);
-    let after = done.state;
-    let said = done.answer;
-    drive_state::keep(bank, after);
-    tell::tally(bank, said);
+fn acks(registers: &mut Registers) {
+    let asked = &registers.asked;
+    let through = SeqNo(asked.word32(0));
+    let nacks = part::front(&registers.nacks, asked.length(1));
+    let acked = sender_acks::acks(registers.sender, through, nacks, asked.value(2));
+    registers.sender = acked.state;
+    let count = acked.answer.unwrap_or(0);
+    let numbers = [code(&acked.answer), u64::from(count)];
+    registers.answer.tell(&numbers);
 }
 
-fn resend(bank: &mut Bank) {
-    let clock = registers::value(bank, 0);
-    let path = registers::value(bank, 1) != 0;
-    let s = drive_state::given(bank);
-    let done = sender_resend::resend(s, clock, path);
-    let after = done.state;
-    let said = done.answer;
-    drive_state::keep(bank, after);
-    tell::tally(bank, said);
+fn resend(registers: &mut Registers) {
+    let clock = registers.asked.value(0);
+    let path = registers.asked.value(1) != 0;
+    let resent = sender_resend::resend(registers.sender, clock, path);
+    registers.sender = resent.state;
+    let count = resent.answer.unwrap_or(0);
+    let numbers = [code(&resent.answer), u64::from(count)];
+    registers.answer.tell(&numbers);
 }
 
-// The calls that take a store, which is in its place already.
-fn begin(bank: &mut Bank, store: &[u8], letter: u8) {
-    let held = registers::length(bank, SENDER_STORE);
+pub fn call(registers: &mut Registers, letter: u8) {
     match letter {
-        b'Z' => start(bank, part::front(store, held)),
-        _ => tell::store(bank, part::front(store, held)),
-    }
-}
-
-// The calls on the state alone.
-fn change(bank: &mut Bank, letter: u8) {
-    match letter {
-        b'P' => set(bank),
-        b'v' => valid(bank),
-        b'c' => acks(bank),
-        _ => resend(bank),
-    }
-}
-
-pub fn call(bank: &mut Bank, store: &Store, letter: u8) {
-    match letter {
-        b'Z' | b'D' => begin(bank, store, letter),
-        _ => change(bank, letter),
+        b'Z' => start(registers),
+        b'P' => set(registers),
+        b'D' => registers.answer.tell_given(registers.sent.as_slice()),
+        b'v' => valid(registers),
+        b'c' => acks(registers),
+        _ => resend(registers),
     }
 }

@@ -1,36 +1,44 @@
--- The sender that stands in the registers (`program_script::registers`).
-use Rattle.std.specs.Prelude.{ℕ, ◌+◌, ◌*◌, ◌%◌, ◌≡◌, List, eqb}
+-- The sender and the receiver that a call gives in its numbers (`program_script::asked`).
+use Rattle.std.specs.Prelude.{ℕ, ◌+◌, ◌%◌, ◌≡◌, List, eqb, Option, Some, None}
 use Rattle.terms.specs.Ladder.{◌when◌else◌}
-use Rattle.timer.specs.declared.Timing.{Timing}
-use Rattle.timer.specs.declared.Timing.TheVariants as G
-use Rattle.program_script.specs.Numbers.{number_in, Filled}
+use Rattle.timer.specs.declared.Sampled.{Sampled}
+use Rattle.program_script.specs.Numbers.{number_in}
 use Rattle.sender_state.specs.declared.Sender.{Sender}
-use Rattle.sender_state.specs.declared.Timer.{Timer}
-use Rattle.sender_state.specs.declared.Timer.TheVariants as T
+use Rattle.receiver_state.specs.declared.Head.{Head}
+use Rattle.drive_state.specs.declared.Registers.{Registers}
 
--- a field of the k-th place, cut to 32 bits; and its send time
-abbrev pub field_in : List ℕ → ℕ → ℕ → ℕ
-field_in bank field k = number_in bank (1024 + 5 * k + field % 5) % 4294967296
+-- the timing that stands from a number on: whether it is sampled, and its two times
+abbrev pub timing_in : List ℕ → ℕ → Option Sampled
+timing_in asked at =
+    None when eqb (number_in asked at) 0 else
+    Some (record { rtt = number_in asked (at + 1) % 4294967296; deviation = number_in asked (at + 2) % 4294967296 })
 
-abbrev pub time_in : List ℕ → ℕ → ℕ
-time_in bank k = number_in bank (1024 + 5 * k + 2)
+abbrev pub timer_in : List ℕ → Option ℕ
+timer_in asked = None when eqb (number_in asked 7) 0 else Some (number_in asked 8)
 
-abbrev pub timing_in : List ℕ → Timing
-timing_in bank = G.Unsampled when eqb (number_in bank 76) 0 else G.Sampled (number_in bank 77 % 4294967296) (number_in bank 78 % 4294967296)
+-- its ten numbers are the call's, and its places those that stand there
+pub record SenderIn (asked : List ℕ) (there s : Sender) : Type 0 where
+  pub chunk : s.chunk ≡ number_in asked 0 % 4294967296
+  pub count : s.count ≡ number_in asked 1 % 4294967296
+  pub next : s.next.0 ≡ number_in asked 2 % 4294967296
+  pub window : s.window ≡ number_in asked 3 % 4294967296
+  pub timing : s.timing ≡ timing_in asked 4
+  pub timer : s.timer ≡ timer_in asked
+  pub clock : s.clock ≡ number_in asked 9
+  pub numbers : s.numbers ≡ there.numbers
+  pub lengths : s.lengths ≡ there.lengths
+  pub sent : s.sent ≡ there.sent
+  pub marks : s.marks ≡ there.marks
+  pub resent : s.resent ≡ there.resent
 
-abbrev pub timer_in : List ℕ → Timer
-timer_in bank = T.Unarmed when eqb (number_in bank 79) 0 else T.At (number_in bank 80)
+pub record HeadIn (asked : List ℕ) (h : Head) : Type 0 where
+  pub slot : h.slot ≡ number_in asked 0 % 4294967296
+  pub start : h.start.0 ≡ number_in asked 1 % 4294967296
+  pub next : h.next.0 ≡ number_in asked 2 % 4294967296
+  pub highest : h.highest.0 ≡ number_in asked 3 % 4294967296
 
-pub record SenderIn (bank : List ℕ) (s : Sender) : Type 0 where
-  pub chunk : s.chunk ≡ number_in bank 72 % 4294967296
-  pub count : s.count ≡ number_in bank 73 % 4294967296
-  pub next : s.next.0 ≡ number_in bank 74 % 4294967296
-  pub window : s.window ≡ number_in bank 75 % 4294967296
-  pub timing : s.timing ≡ timing_in bank
-  pub timer : s.timer ≡ timer_in bank
-  pub clock : s.clock ≡ number_in bank 81
-  pub numbers : Filled (field_in bank 0) 192 s.numbers
-  pub lengths : Filled (field_in bank 1) 192 s.lengths
-  pub sent : Filled (time_in bank) 192 s.sent
-  pub marks : Filled (field_in bank 3) 192 s.marks
-  pub resent : Filled (field_in bank 4) 192 s.resent
+-- at first nothing is stored
+pub record Blank (r : Registers) : Type 0 where
+  pub received : r.received.length ≡ 0
+  pub sent : r.sent.length ≡ 0
+  pub line : r.line.length ≡ 0

@@ -1,178 +1,106 @@
 // The lamp's side: a packet is read and accepted, and what is ready is taken into the lamp's image.
 use super::image::Image;
-use super::sender::Wire;
+use super::tell::Payload;
 use super::{sender, tell};
-use packet_read::Reading;
 use program_lines::{part, say};
-use receiver_ack::Acknowledged;
-use receiver_calls::Taken;
 use receiver_state::Receiver;
-use terms::{Answer, Given, SeqNo, StreamId};
+use terms::SeqNo;
 
-// 512 slots of 128 bytes.
-pub type Store = [u8; 65536];
-
-#[derive(Clone, Copy)]
+#[derive(Drop)]
 pub struct Lamp {
-    pub receiver: Receiver,
+    receiver: Receiver,
+    // 512 slots of 128 bytes
+    store: [u8; 65536],
+    image: Image,
     // how many bytes of its image it has
-    pub filled: usize,
+    filled: usize,
 }
 
-// What a take leaves, and whether it took.
-#[derive(Clone, Copy)]
-struct Step {
-    took: bool,
-    lamp: Lamp,
-}
-
-pub fn start(store: &Store) -> Lamp {
-    let before_all = SeqNo(0);
-    let started = receiver_state::start(before_all, 128, store);
-    let fresh = started.state;
-    Lamp {
-        receiver: fresh,
-        filled: 0,
+impl Lamp {
+    pub fn new() -> Lamp {
+        let store = [0; 65536];
+        Lamp {
+            receiver: receiver_state::start(SeqNo(0), 128, &store).state,
+            store,
+            image: [0; 1000],
+            filled: 0,
+        }
     }
-}
 
-// take, into the rest of the image.
-fn take_at(shown: &mut [u8], at: usize, r: Receiver, store: &[u8]) -> Taken {
-    if at > shown.len() {
-        return receiver_calls::take(r, store, shown);
+    // What it has of its image.
+    pub fn shown(&self) -> &[u8] {
+        part::front(&self.image, self.filled)
     }
-    receiver_calls::take(r, store, &mut shown[at..])
-}
 
-// A sum that fits, whatever the numbers.
-fn sum(filled: usize, n: usize) -> usize {
-    filled % 65536 + n % 65536
-}
+    // Takes the next payload into the rest of the image, if it is held.
+    fn take(&mut self) -> Option<Payload> {
+        let number = self.receiver.head.next;
+        let rest = self.image.get_mut(self.filled..)?;
+        let taken = receiver_calls::take(self.receiver, &self.store, rest);
+        let size = taken.answer.ok()?;
+        self.receiver = taken.state;
+        self.filled = self.filled.saturating_add(size);
+        Some(Payload { number, size })
+    }
 
-// Takes the next payload, if it is held, and tells its number after a word.
-fn take_next(lamp: Lamp, word: &[u8], store: &Store, shown: &mut Image) -> Step {
-    let filled = lamp.filled;
-    let r = lamp.receiver;
-    let number = r.head.next.0;
-    let done = take_at(shown, filled, r, store);
-    let after = done.state;
-    let answer = done.answer;
-    match answer {
-        Given::Refused(_) => Step {
-            took: false,
-            lamp: lamp,
-        },
-        Given::Bytes(n) => {
-            say::text(word);
-            tell::numbered(number, n);
-            let fuller = Lamp {
-                receiver: after,
-                filled: sum(filled, n),
+    // Takes all that is ready, or tells what is waited for.
+    fn take_ready(&mut self, rt: &(impl Print + Eprint)) {
+        let Some(first) = self.take() else {
+            tell::held(rt, self.receiver.head.next);
+            return;
+        };
+        say::text(rt, format_args!(": taken {first}"));
+        // at most once for each slot
+        for _ in 0..512 {
+            let Some(next) = self.take() else {
+                break;
             };
-            Step {
-                took: true,
-                lamp: fuller,
+            say::text(rt, format_args!(", {next}"));
+        }
+        say::text(rt, "\n");
+    }
+
+    // The plain acknowledgement, written and read back.
+    fn acknowledge(&self, rt: &(impl Print + Eprint)) {
+        let mut out = [0u8; 1044];
+        let (to, from) = (sender::SENDER_ID, sender::LAMP_ID);
+        match receiver_ack::acknowledge(&self.receiver, to, from, &mut out) {
+            Ok(n) => tell::acknowledgement(rt, part::front(&out, n)),
+            Err(why) => {
+                say::text(rt, "  acknowledged");
+                tell::refused(rt, why);
             }
         }
     }
-}
 
-// Takes on, at most once for each slot.
-fn take_rest(lamp: Lamp, store: &Store, shown: &mut Image) -> Lamp {
-    let mut l = lamp;
-    let mut turns: usize = 512;
-    while turns > 0 {
-        let step = take_next(l, b", ", store, shown);
-        if !step.took {
-            return l;
-        }
-        let after = step.lamp;
-        l = after;
-        turns -= 1;
+    // Tells why a piece is not delivered.
+    pub fn explain(&self, rt: &(impl Print + Eprint), number: u32) {
+        tell::reason(rt, number, receiver_why::why(&self.receiver, SeqNo(number)));
     }
-    l
-}
 
-// Takes all that is ready, or tells what is waited for.
-fn take_ready(lamp: Lamp, store: &Store, shown: &mut Image) -> Lamp {
-    let first = take_next(lamp, b": taken ", store, shown);
-    if !first.took {
-        let r = lamp.receiver;
-        tell::held(r.head.next.0);
-        return lamp;
+    // Accepts a payload, takes what is ready, and acknowledges; a refused one changes nothing.
+    fn accept(&mut self, rt: &(impl Print + Eprint), number: SeqNo, payload: &[u8]) {
+        let accepted = receiver_calls::accept(self.receiver, number, payload, &mut self.store);
+        if let Err(why) = accepted.answer {
+            tell::refused(rt, why);
+            return;
+        }
+        self.receiver = accepted.state;
+        self.take_ready(rt);
+        self.acknowledge(rt);
     }
-    let begun = first.lamp;
-    let done = take_rest(begun, store, shown);
-    say::text(b"\n");
-    done
-}
 
-// The plain acknowledgement, written and read back.
-fn acknowledge(lamp: Lamp) {
-    let mut out = [0u8; 1044];
-    let r = lamp.receiver;
-    let to = StreamId(sender::SENDER_ID);
-    let from = StreamId(sender::LAMP_ID);
-    match receiver_ack::acknowledge(r, to, from, &mut out) {
-        Acknowledged::Written(n) => tell::acknowledgement(part::front(&out, n)),
-        Acknowledged::Refused(why) => {
-            say::text(b"  acknowledged");
-            tell::refused(why);
-        }
-    }
-}
-
-// Tells why a piece is not delivered.
-pub fn explain(lamp: Lamp, number: u32) {
-    let r = lamp.receiver;
-    let asked = SeqNo(number);
-    tell::reason(number, receiver_why::why(r, asked));
-}
-
-// Accepts a payload, takes what is ready, and acknowledges; a refused one changes nothing.
-fn accept(lamp: Lamp, number: SeqNo, payload: &[u8], store: &mut Store, shown: &mut Image) -> Lamp {
-    let r = lamp.receiver;
-    let filled = lamp.filled;
-    let done = receiver_calls::accept(r, number, payload, store);
-    let after = done.state;
-    let answer = done.answer;
-    match answer {
-        Answer::Refused(why) => {
-            tell::refused(why);
-            lamp
-        }
-        Answer::Done => {
-            let holding = Lamp {
-                receiver: after,
-                filled: filled,
-            };
-            let done = take_ready(holding, store, shown);
-            acknowledge(done);
-            done
-        }
-    }
-}
-
-// A packet's bytes arrive, in the way that the words say.
-pub fn receive(
-    lamp: Lamp,
-    wire: &Wire,
-    n: usize,
-    how: &[u8],
-    store: &mut Store,
-    shown: &mut Image,
-) -> Lamp {
-    let bytes = part::front(wire, n);
-    match packet_read::read(bytes) {
-        Reading::Refused(why) => {
-            say::text(b"bytes arrive");
-            tell::refused(why);
-            lamp
-        }
-        Reading::Read(p) => {
-            tell::packet(p, how);
-            let number = p.seq_nro;
-            accept(lamp, number, packet_parts::payload(bytes), store, shown)
+    // A packet arrives, in the way that the words say.
+    pub fn receive(&mut self, rt: &(impl Print + Eprint), packet: &[u8], how: &str) {
+        match packet_read::read(packet) {
+            Ok(p) => {
+                tell::packet(rt, p, how);
+                self.accept(rt, p.seq_nro, packet_parts::payload(packet));
+            }
+            Err(why) => {
+                say::text(rt, "bytes arrive");
+                tell::refused(rt, why);
+            }
         }
     }
 }

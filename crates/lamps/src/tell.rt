@@ -1,95 +1,91 @@
 // What happens, in words.
-use packet_read::{Packet, Reading};
+use packet_read::Packet;
 use program_lines::say;
 use receiver_why::Reason;
-use terms::Refusal;
+use std::fmt;
+use terms::{Refusal, SeqNo};
 
-fn why(number: u32) {
-    match number {
-        13 => say::text(b"number below the next to take"),
-        14 => say::text(b"number minus next to take is 512 or more"),
-        15 => say::text(b"number already held"),
-        16 => say::text(b"payload longer than a slot"),
-        _ => say::text(b"as the table of refusals says"),
+fn why(refusal: Refusal) -> &'static str {
+    match refusal {
+        Refusal::BelowNext => "number below the next to take",
+        Refusal::BeyondSpan => "number minus next to take is 512 or more",
+        Refusal::AlreadyHeld => "number already held",
+        Refusal::PayloadLong => "payload longer than a slot",
+        _ => "as the table of refusals says",
     }
 }
 
-pub fn refused(r: Refusal) {
-    let number = r.number();
-    say::named(b": refused", number as u64);
-    say::text(b", ");
-    why(number);
-    say::text(b"\n");
+pub fn refused(rt: &(impl Print + Eprint), refusal: Refusal) {
+    say::text(
+        rt,
+        format_args!(": refused {}, {}\n", refusal.number(), why(refusal)),
+    );
 }
 
-// A number, with a word where its payload is empty.
-pub fn numbered(number: u32, size: usize) {
-    say::number(number as u64);
-    if size == 0 {
-        say::text(b" (empty)");
+// A payload by its number, with a word where it is empty.
+#[derive(Drop)]
+pub struct Payload {
+    pub number: SeqNo,
+    pub size: usize,
+}
+
+impl fmt::Display for Payload {
+    fn fmt<W: fmt::Write>(&self, f: &mut fmt::Formatter<W>) -> fmt::Result {
+        let empty = if self.size == 0 { " (empty)" } else { "" };
+        write!(f, "{}{empty}", self.number.0)
     }
 }
 
-pub fn packet(p: Packet, how: &[u8]) {
-    say::text(b"packet ");
-    let payload = p.payload;
-    numbered(p.seq_nro.0, payload.len);
-    say::text(how);
+pub fn packet(rt: &(impl Print + Eprint), p: Packet, how: &str) {
+    let payload = Payload {
+        number: p.seq_nro,
+        size: p.payload.len,
+    };
+    say::text(rt, format_args!("packet {payload} {how}"));
 }
 
-pub fn held(next: u32) {
-    say::named(b": held, waiting for", next as u64);
-    say::text(b"\n");
+pub fn held(rt: &(impl Print + Eprint), next: SeqNo) {
+    say::text(rt, format_args!(": held, waiting for {}\n", next.0));
 }
 
 // Where a number stands, as support reads it.
-pub fn reason(number: u32, answer: Reason) {
-    say::named(b"  why is", number as u64);
-    say::text(b" not delivered? ");
+pub fn reason(rt: &(impl Print + Eprint), number: u32, answer: Result<Reason, Refusal>) {
+    say::text(rt, format_args!("  why is {number} not delivered? "));
     match answer {
-        Reason::LastNumber => say::text(b"It is the last number, which no packet can use"),
-        Reason::AtOrBelowStart => say::text(b"It is at or below the start"),
-        Reason::Taken => say::text(b"It is: it was taken"),
-        Reason::Ready => say::text(b"It is ready: it has only to be taken"),
-        Reason::BehindGap(smallest) => {
-            say::named(
-                b"It is held behind a gap: the smallest missing number is",
-                smallest.0 as u64,
-            )
-        }
-        Reason::Missing => say::text(b"It is missing, and a later one came"),
-        Reason::NotYetSeen => say::text(b"It is not yet seen"),
-        Reason::BeyondSpan => say::text(b"It is beyond the span"),
-        Reason::Refused(why) => say::named(b"Refused", why.number() as u64),
+        Ok(Reason::LastNumber) => say::text(rt, "It is the last number, which no packet can use"),
+        Ok(Reason::AtOrBelowStart) => say::text(rt, "It is at or below the start"),
+        Ok(Reason::Taken) => say::text(rt, "It is: it was taken"),
+        Ok(Reason::Ready) => say::text(rt, "It is ready: it has only to be taken"),
+        Ok(Reason::BehindGap(smallest)) => say::text(
+            rt,
+            format_args!(
+                "It is held behind a gap: the smallest missing number is {}",
+                smallest.0
+            ),
+        ),
+        Ok(Reason::Missing) => say::text(rt, "It is missing, and a later one came"),
+        Ok(Reason::NotYetSeen) => say::text(rt, "It is not yet seen"),
+        Ok(Reason::BeyondSpan) => say::text(rt, "It is beyond the span"),
+        Err(why) => say::text(rt, format_args!("Refused {}", why.number())),
     }
-    say::text(b".\n");
-}
-
-fn listed(number: u32) {
-    say::text(b" ");
-    say::number(number as u64);
-}
-
-fn numbers(nacks: &[u8]) {
-    let n = nacks.len() / 4;
-    let mut i = 0;
-    while i < n {
-        listed(wire::be32(nacks, 4 * i));
-        i += 1;
-    }
+    say::text(rt, ".\n");
 }
 
 // An acknowledgement that names missing numbers, as our own reader reads it.
-pub fn acknowledgement(bytes: &[u8]) {
-    let Reading::Read(p) = packet_read::read(bytes) else {
+pub fn acknowledgement(rt: &(impl Print + Eprint), bytes: &[u8]) {
+    let Ok(p) = packet_read::read(bytes) else {
         return;
     };
-    let nacks = p.nacks;
-    if nacks.len == 0 {
+    if p.nacks.len == 0 {
         return;
     }
-    say::named(b"  acknowledged: ack-through", p.ack_through.0 as u64);
-    say::text(b", NACKs");
-    numbers(packet_parts::nacks(bytes));
-    say::text(b"\n");
+    say::text(
+        rt,
+        format_args!("  acknowledged: ack-through {}, NACKs", p.ack_through.0),
+    );
+    let (nacks, _) = packet_parts::nacks(bytes).as_chunks();
+    for nack in nacks {
+        say::text(rt, format_args!(" {}", u32::from_be_bytes(*nack)));
+    }
+    say::text(rt, "\n");
 }

@@ -4,7 +4,7 @@ use Rattle.terms.specs.Ladder.{◌when◌else◌}
 use Rattle.terms.specs.Lists.{part}
 
 -- the first n
-abbrev pub front_of : ℕ → List ℕ → List ℕ
+abbrev pub front_of : {A : Type 0} → ℕ → List A → List A
 front_of n l = take n l when leb n (length l) else []
 
 -- all from a place on

@@ -1,4 +1,4 @@
-// Text for the programs: words and numbers to standard output, and parts of lent bytes.
+// Text for the programs: words to standard output, and parts of lent slices.
 #![tactic(auto)]
 
 pub mod part;

@@ -1,20 +1,13 @@
--- The numbers of the bank.
-use Rattle.std.specs.Prelude.{ℕ, ◌+◌, ◌%◌, ◌<◌, ◌≡◌, List, ltb, length, get_or}
-use Rattle.terms.specs.Ladder.{◌when◌else◌}
+-- The numbers that a call asks, and the first that it answers.
+use Rattle.std.specs.Prelude.{ℕ, List, get_or, Result, Ok, Err}
+use Rattle.terms.specs.Refusals.{number_of}
+use Rattle.terms.specs.declared.Refusal.{Refusal}
 
--- the number at a place of the bank, and 0 where there is no such place
+-- the number of a field, and 0 where there is no such field
 abbrev pub number_in : List ℕ → ℕ → ℕ
-number_in bank at = get_or bank at 0 when ltb at 1984 else 0
+number_in asked at = get_or asked at 0
 
--- the k-th NACK of a call
-abbrev pub nack_in : List ℕ → ℕ → ℕ
-nack_in bank k = number_in bank (128 + k) % 4294967296
-
--- below n, the k-th number of l is f k
-abbrev pub FilledTo : (ℕ → ℕ) → ℕ → List ℕ → Type 0
-FilledTo f n l = (k : ℕ) → k < n → get_or l k 0 ≡ f k
-
--- l is n numbers long, the k-th of them f k
-pub record Filled (f : ℕ → ℕ) (n : ℕ) (l : List ℕ) : Type 0 where
-  pub long : n ≡ length l
-  pub is : FilledTo f n l
+-- document 01's number of a refusal, and 0 where there is none
+abbrev pub code_of : {A : Type 0} → Result A Refusal → ℕ
+code_of (Ok given) = 0
+code_of (Err why) = number_of why

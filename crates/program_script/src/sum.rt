@@ -1,22 +1,16 @@
 // The checksum of bytes.
-ghost use Rattle.std.specs.Prelude.{◌+◌, ◌≤◌, ◌<◌, length};
+ghost use Rattle.std.specs.Prelude.{◌<◌};
 
-fn wide(x: u8) -> u64
-    ensures { result < 256 }
-{
-    x as u64
-}
-
-// What four bytes from a place on add to a sum that is moved on by four steps: each byte and one, times a power of 1000003, from the
-// third down. Every power stands as its remainder of 4294967291.
-fn four(bytes: &[u8], at: usize) -> u64
-    requires { at + 4 ≤ length bytes.now }
+// What four bytes add to a sum that is moved on by four steps: each byte and one, times a power of 1000003, from the third down. Every power stands as its
+// remainder of 4294967291.
+fn four(bytes: &[u8; 4]) -> u64
     ensures { result < 2000000000000 }
 {
-    (wide(bytes[at]) + 1) * 1748059978
-        + (wide(bytes[at + 1]) + 1) * 3573588497
-        + (wide(bytes[at + 2]) + 1) * 1000003
-        + wide(bytes[at + 3])
+    let [a, b, c, d] = *bytes;
+    (u64::from(a) + 1) * 1748059978
+        + (u64::from(b) + 1) * 3573588497
+        + (u64::from(c) + 1) * 1000003
+        + u64::from(d)
         + 1
 }
 
@@ -25,16 +19,13 @@ fn four(bytes: &[u8], at: usize) -> u64
 pub fn checksum(bytes: &[u8]) -> u64
     ensures { result < 4294967291 }
 {
-    let n = bytes.len();
+    let (fours, rest) = bytes.as_chunks();
     let mut sum: u64 = 0;
-    let mut i = 0;
-    while n - i >= 4 {
-        sum = (sum * 649841061 + four(bytes, i)) % 4294967291;
-        i += 4;
+    for bytes in fours {
+        sum = (sum * 649841061 + four(bytes)) % 4294967291;
     }
-    while i < n {
-        sum = (sum * 1000003 + wide(bytes[i]) + 1) % 4294967291;
-        i += 1;
+    for &byte in rest {
+        sum = (sum * 1000003 + u64::from(byte) + 1) % 4294967291;
     }
     sum
 }

@@ -5,69 +5,66 @@
 mod tell;
 
 use program_lines::part;
-use program_lines::say::STDIN_FILENO;
-use serial_feed::Heard;
 use serial_state::LineReader;
+use std::io::Read;
+use terms::Refusal;
 
 type Buffer = [u8; 2048];
 
-type Portion = [u8; 16];
-
 // Tells an answer; whether it is a packet, so that what was not used is offered again.
-fn told(answer: Heard, buffer: &Buffer) -> bool {
+fn told(
+    rt: &(impl Print + Eprint),
+    answer: Result<Option<usize>, Refusal>,
+    buffer: &Buffer,
+) -> bool {
     match answer {
-        Heard::Packet(n) => {
-            tell::packet(part::front(buffer, n));
+        Ok(Some(n)) => {
+            tell::packet(rt, part::front(buffer, n));
             true
         }
-        Heard::More => false,
-        Heard::Refused(why) => {
-            tell::refused(why);
+        Ok(None) => false,
+        Err(why) => {
+            tell::refused(rt, why);
             false
         }
     }
 }
 
 // Offers a portion, and again what is not used of it, until no packet is answered: 16 bytes have one end of a packet at most.
-fn offer(first: LineReader, portion: &[u8], buffer: &mut Buffer) -> LineReader {
-    let done = serial_feed::feed(first, portion, buffer);
-    let after = done.state;
-    let answer = done.answer;
-    if !told(answer, buffer) {
-        return after;
+fn offer(
+    rt: &(impl Print + Eprint),
+    first: LineReader,
+    portion: &[u8],
+    buffer: &mut Buffer,
+) -> LineReader {
+    let fed = serial_feed::feed(first, portion, buffer);
+    if !told(rt, fed.answer, buffer) {
+        return fed.state;
     }
-    let again = serial_feed::feed(after, part::after(portion, done.used), buffer);
-    let last = again.answer;
-    told(last, buffer);
+    let again = serial_feed::feed(fed.state, part::after(portion, fed.used), buffer);
+    told(rt, again.answer, buffer);
     again.state
 }
 
-// The next portion from the line, of 1 to 13 bytes, each length in its turn and in no order: its length, 0 at the line's end.
-fn next(portion: &mut [u8], turn: u64) -> usize {
+// The next portion from the line, of up to 13 bytes, each length in its turn and in no order; of no byte at the line's end, or where it cannot be read.
+fn next<'a>(line: &mut impl Read, portion: &'a mut [u8; 16], turn: u64) -> &'a [u8] {
     let n = (turn % 13 * 7 % 13 + 1) as usize;
-    if n > portion.len() {
-        return 0;
-    }
-    io::read_full(STDIN_FILENO, &mut portion[..n])
+    let got = line.read(&mut portion[..n]).unwrap_or(0);
+    part::front(portion, got)
 }
 
-// Nothing says that a line ends, so the turns are counted down, from a number that no line uses up.
-fn run(portion: &mut Portion, buffer: &mut Buffer) {
-    let mut r = serial_state::start(buffer);
-    let mut turns = u64::MAX;
-    while turns > 0 {
-        let got = next(portion, turns);
-        r = offer(r, part::front(portion, got), buffer);
-        if (got == 0) | (r.phase == 3) {
-            tell::end(r);
-            return;
-        }
-        turns -= 1;
-    }
-}
-
-fn main() {
+// Nothing says that a line ends, so the turns have a limit, which no line uses up.
+fn main(rt: HostRuntime) {
+    let mut line = rt.reader();
     let mut portion = [0u8; 16];
     let mut buffer = [0u8; 2048];
-    run(&mut portion, &mut buffer);
+    let mut reader = serial_state::start(&buffer);
+    for turn in 0..u64::MAX {
+        let got = next(&mut line, &mut portion, turn);
+        reader = offer(&rt, reader, got, &mut buffer);
+        if got.is_empty() || reader.phase == 3 {
+            tell::end(&rt, reader);
+            return;
+        }
+    }
 }

@@ -1,57 +1,53 @@
 // What is heard, in words.
-use packet_read::{Packet, Reading};
+use packet_read::Packet;
 use program_lines::say;
 use serial_state::LineReader;
 use terms::Refusal;
 
-fn ids(p: Packet) {
-    say::named(b"send", p.send_stream_id.0 as u64);
-    say::named(b", receive", p.recv_stream_id.0 as u64);
-    say::named(b", number", p.seq_nro.0 as u64);
-    say::named(b", ack-through", p.ack_through.0 as u64);
+pub fn refused(rt: &(impl Print + Eprint), why: Refusal) {
+    say::text(rt, format_args!("refused {}\n", why.number()));
 }
 
-fn parts(p: Packet) {
-    let nacks = p.nacks;
-    let payload = p.payload;
-    say::named(b", NACKs", (nacks.len / 4) as u64);
-    say::named(b", resend delay", p.resend_delay as u64);
-    say::named(b", flags", p.flags as u64);
-    say::named(b", delay", p.delay as u64);
-    say::named(b", maximum size", p.max_size as u64);
-    say::named(b", payload", payload.len as u64);
-}
-
-pub fn refused(r: Refusal) {
-    say::named(b"refused", r.number() as u64);
-    say::text(b"\n");
+fn fields(rt: &(impl Print + Eprint), p: Packet) {
+    say::text(
+        rt,
+        format_args!(
+            "send {}, receive {}, number {}, ack-through {}, NACKs {}, resend delay {}, flags {}, delay {}, maximum size {}, payload {}\n",
+            p.send_stream_id.0,
+            p.recv_stream_id.0,
+            p.seq_nro.0,
+            p.ack_through.0,
+            p.nacks.len / 4,
+            p.resend_delay,
+            p.flags,
+            p.delay,
+            p.max_size,
+            p.payload.len
+        ),
+    );
 }
 
 // A packet's length and its fields, or why it cannot be read.
-pub fn packet(bytes: &[u8]) {
-    say::named(b"packet of", bytes.len() as u64);
-    say::text(b": ");
+pub fn packet(rt: &(impl Print + Eprint), bytes: &[u8]) {
+    say::text(rt, format_args!("packet of {}: ", bytes.len()));
     match packet_read::read(bytes) {
-        Reading::Refused(r) => refused(r),
-        Reading::Read(p) => {
-            ids(p);
-            parts(p);
-            say::text(b"\n");
-        }
+        Ok(p) => fields(rt, p),
+        Err(why) => refused(rt, why),
     }
 }
 
 // Where the line ends.
-pub fn end(r: LineReader) {
-    let phase = r.phase;
-    match phase {
-        0 => say::text(b"the line ends behind a packet\n"),
-        1 => say::text(b"the line ends inside a length\n"),
-        2 => {
-            say::named(b"the line ends inside a packet of", r.size as u64);
-            say::named(b", of which there are", r.there as u64);
-            say::text(b"\n");
-        }
-        _ => say::text(b"the line is not read on\n"),
+pub fn end(rt: &(impl Print + Eprint), r: LineReader) {
+    match r.phase {
+        0 => say::text(rt, "the line ends behind a packet\n"),
+        1 => say::text(rt, "the line ends inside a length\n"),
+        2 => say::text(
+            rt,
+            format_args!(
+                "the line ends inside a packet of {}, of which there are {}\n",
+                r.size, r.there
+            ),
+        ),
+        _ => say::text(rt, "the line is not read on\n"),
     }
 }

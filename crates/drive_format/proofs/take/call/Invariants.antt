@@ -1,9 +1,0 @@
--- The measure is how many fields a row can still have.
-use Prim.Native.Nat.{◌≤◌, ◌-◌}
-use Rattle.drive_format.proofs.take.call.Given as goal
-
-abbrev pub invariant-loop-i : goal.invariant-loop-i
-invariant-loop-i l = l.i ≤ 16
-
-abbrev pub decreases-loop-i : goal.decreases-loop-i
-decreases-loop-i l = 16 - l.i

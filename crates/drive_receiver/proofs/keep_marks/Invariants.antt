@@ -1,9 +1,0 @@
--- The measure is how many marks are left.
-use Prim.Native.Nat.{◌≤◌, ◌-◌}
-use Rattle.drive_receiver.proofs.keep_marks.Given as goal
-
-abbrev pub invariant-loop-i : goal.invariant-loop-i
-invariant-loop-i l = l.i ≤ 512
-
-abbrev pub decreases-loop-i : goal.decreases-loop-i
-decreases-loop-i l = 512 - l.i

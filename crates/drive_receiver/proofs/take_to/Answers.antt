@@ -1,7 +1,0 @@
--- The front of the register is as long as asked.
-use native.Mathlib.Omega.{arith}
-use lib.ListN.{length-take}
-use Rattle.drive_receiver.proofs.take_to.Goals as goal
-
-pub slice_bounds-take-end-2 : goal.slice_bounds-take-end-2
-slice_bounds-take-end-2 c = simp length-take (omega arith)
