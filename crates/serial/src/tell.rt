@@ -36,7 +36,7 @@ pub fn packet(rt: &(impl Print + Eprint), bytes: &[u8]) {
     }
 }
 
-// Where the line ends.
+// Where the line ends, by the reader's phase, which is a number for hosts in C.
 pub fn end(rt: &(impl Print + Eprint), r: LineReader) {
     match r.phase {
         0 => say::text(rt, "the line ends behind a packet\n"),
