@@ -18,7 +18,7 @@ use terms::Refusal;
 // The file's first three bytes.
 const MARK: [u8; 3] = *b"LST";
 
-// The state. A number without a meaning in its phase is 0. Phase and kind are numbers and no enums: the C interface, and refusal 11 is promised of every state
+// The state. A number without a meaning in its phase is 0. Phase and kind are numbers and no enums, since refusal 11 is promised of every state
 // that is handed in.
 #[repr(C)]
 #[derive(Clone, Copy)]
