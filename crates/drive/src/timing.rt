@@ -21,13 +21,11 @@ fn smooth(registers: &mut Registers) {
     registers.answer.tell(&[code(&said), said.unwrap_or(0)]);
 }
 
-// A step of the window answers it alone.
-fn step(registers: &mut Registers, letter: u8) {
-    let window = registers.asked.word32(0);
-    let after = match letter {
-        b'g' => timer::window_grown(window),
-        _ => timer::window_fallen(window),
-    };
+// A step of the window, by one of its two rules, answers it alone.
+fn step<F: Fn(u32) -> u32>(registers: &mut Registers, rule: F)
+    requires { F.IsAlwaysCallable rule }
+{
+    let after = rule(registers.asked.word32(0));
     registers.answer.tell(&[u64::from(after)]);
 }
 
@@ -35,6 +33,7 @@ pub fn call(registers: &mut Registers, letter: u8) {
     match letter {
         b'x' => sample(registers),
         b'm' => smooth(registers),
-        _ => step(registers, letter),
+        b'g' => step(registers, timer::window_grown),
+        _ => step(registers, timer::window_fallen),
     }
 }
