@@ -1,6 +1,5 @@
 // The calls 'x', 'g', 'f' and 'm': a sample of the round-trip time, the window's two steps, and the Rust's own smoothing.
 use drive_state::{Registers, given};
-use program_script::answer::code;
 use timer::Sampled;
 
 fn sample(registers: &mut Registers) {
@@ -17,8 +16,9 @@ fn sample(registers: &mut Registers) {
 fn smooth(registers: &mut Registers) {
     let old = registers.asked.value(0);
     let sample = registers.asked.value(1);
-    let said = timer_float::smooth_float(old, sample);
-    registers.answer.tell(&[code(&said), said.unwrap_or(0)]);
+    registers
+        .answer
+        .tell_number(timer_float::smooth_float(old, sample));
 }
 
 // A step of the window, by one of its two rules, answers it alone.

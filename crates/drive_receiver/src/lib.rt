@@ -35,8 +35,9 @@ fn take(registers: &mut Registers) {
     let store = registers.received.as_slice();
     let taken = receiver_calls::take(registers.receiver, store, registers.out.as_mut_slice());
     registers.receiver = taken.state;
-    let size = taken.answer.unwrap_or(0);
-    registers.answer.tell(&[code(&taken.answer), size as u64]);
+    registers
+        .answer
+        .tell_number(taken.answer.map(|size| size as u64));
     registers.answer.tell_lent(registers.out.as_slice());
 }
 
@@ -45,8 +46,9 @@ fn acknowledge(registers: &mut Registers) {
     let recv = StreamId(registers.asked.word32(1));
     let output = registers.out.as_mut_slice();
     let written = receiver_ack::acknowledge(&registers.receiver, send, recv, output);
-    let numbers = [code(&written), written.unwrap_or(0) as u64];
-    registers.answer.tell(&numbers);
+    registers
+        .answer
+        .tell_number(written.map(|size| size as u64));
     registers.answer.tell_lent(registers.out.as_slice());
 }
 

@@ -33,9 +33,7 @@ fn acks(registers: &mut Registers) {
     let nacks = part::front(&registers.nacks, asked.length(1));
     let acked = sender_acks::acks(registers.sender, through, nacks, asked.value(2));
     registers.sender = acked.state;
-    let count = acked.answer.unwrap_or(0);
-    let numbers = [code(&acked.answer), u64::from(count)];
-    registers.answer.tell(&numbers);
+    registers.answer.tell_number(acked.answer.map(u64::from));
 }
 
 fn resend(registers: &mut Registers) {
@@ -43,9 +41,7 @@ fn resend(registers: &mut Registers) {
     let path = registers.asked.value(1) != 0;
     let resent = sender_resend::resend(registers.sender, clock, path);
     registers.sender = resent.state;
-    let count = resent.answer.unwrap_or(0);
-    let numbers = [code(&resent.answer), u64::from(count)];
-    registers.answer.tell(&numbers);
+    registers.answer.tell_number(resent.answer.map(u64::from));
 }
 
 pub fn call(registers: &mut Registers, letter: u8) {

@@ -19,9 +19,9 @@ fn submit(registers: &mut Registers) {
         registers.sent.as_mut_slice(),
     );
     registers.sender = submitted.state;
-    let count = submitted.answer.unwrap_or(0);
-    let numbers = [code(&submitted.answer), u64::from(count)];
-    registers.answer.tell(&numbers);
+    registers
+        .answer
+        .tell_number(submitted.answer.map(u64::from));
     registers.answer.tell_lent(registers.sent.as_slice());
 }
 
@@ -45,8 +45,9 @@ fn fetch(registers: &mut Registers) {
     let store = registers.sent.as_slice();
     let output = registers.out.as_mut_slice();
     let fetched = sender_send::fetch(&registers.sender, rank, store, output);
-    let numbers = [code(&fetched), fetched.unwrap_or(0) as u64];
-    registers.answer.tell(&numbers);
+    registers
+        .answer
+        .tell_number(fetched.map(|size| size as u64));
     registers.answer.tell_lent(registers.out.as_slice());
 }
 

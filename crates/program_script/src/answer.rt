@@ -6,7 +6,7 @@ use super::buffer::Buffer;
 use super::sum;
 use terms::Refusal;
 
-// A refusal's number, and 0 where there is none.
+// A refusal's number, and 0 where there is none. A code of 0 beside values, and a flag with numbers beside, are docs/DRIVE.md's format of a script and its answers.
 pub fn code<T>(said: &Result<T, Refusal>) -> u64
     ensures { result ≡ code_of said.now }
 {
@@ -29,6 +29,11 @@ impl Answer {
         requires { length numbers.now ≤ 22 }
     {
         self.numbers.only(numbers.len()).copy_from_slice(numbers);
+    }
+
+    // What is said: its code, and its number, which is 0 where the call is refused.
+    pub fn tell_number(&mut self, said: Result<u64, Refusal>) {
+        self.tell(&[code(&said), said.unwrap_or(0)]);
     }
 
     // What the call was lent, as it is then.
