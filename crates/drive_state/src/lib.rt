@@ -9,7 +9,7 @@ ghost use Rattle.drive_state.specs.Registers.{Blank};
 use program_script::answer::Answer;
 use program_script::asked::Asked;
 use program_script::buffer::Buffer;
-use receiver_state::{Head, Receiver};
+use receiver_state::Receiver;
 use sender_state::Sender;
 use serial_state::LineReader;
 use terms::SeqNo;
@@ -31,19 +31,7 @@ pub struct Registers {
     pub line: Buffer<u8, 70000>,
 }
 
-// A receiver, a sender and a reader as they are at first, which every call refuses.
-fn receiver() -> Receiver {
-    Receiver {
-        head: Head {
-            slot: 0,
-            start: SeqNo(0),
-            next: SeqNo(0),
-            highest: SeqNo(0),
-        },
-        marks: [0; 512],
-    }
-}
-
+// A sender as it is at first, which every call refuses: all 0. (No start gives it, since that of a start that is refused has a window of 1.)
 fn sender() -> Sender {
     Sender {
         chunk: 0,
@@ -61,18 +49,8 @@ fn sender() -> Sender {
     }
 }
 
-fn reader() -> LineReader {
-    LineReader {
-        room: 0,
-        phase: 0,
-        high: 0,
-        size: 0,
-        there: 0,
-    }
-}
-
 impl Registers {
-    // As they are at first: all 0, and no byte stored.
+    // As they are at first: all 0, and no byte stored. The receiver is that of a refused start, and every call refuses it; the reader is one over a buffer of no byte.
     pub fn new() -> Registers
         ensures { Blank result }
     {
@@ -85,11 +63,11 @@ impl Registers {
                 numbers: Buffer::new(0),
                 sum: 0,
             },
-            receiver: receiver(),
+            receiver: receiver_state::start(SeqNo(0), 0, &[]).state,
             received: Buffer::new(0),
             sender: sender(),
             sent: Buffer::new(0),
-            reader: reader(),
+            reader: serial_state::start(&[]),
             line: Buffer::new(0),
         }
     }
