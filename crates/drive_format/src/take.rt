@@ -34,9 +34,12 @@ fn buffer<R: Read, const N: usize>(
 }
 
 // A count and that many NACKs.
-fn nacks<R: Read>(script: &mut Script<R>, nacks: &mut [u32; 300]) -> Result<usize, BadScript> {
+fn nacks<R: Read>(
+    script: &mut Script<R>,
+    nacks: &mut Buffer<u32, 300>,
+) -> Result<usize, BadScript> {
     let n = script.limited(2, 300)?;
-    for nack in &mut nacks[..n] {
+    for nack in nacks.only(n) {
         *nack = u32::from_be_bytes(script.array()?);
     }
     Ok(n)

@@ -75,7 +75,7 @@ fn write(registers: &mut Registers) {
     let rest = part::after(bytes, destination);
     let written = packet_write::write(
         fields(asked),
-        part::front(&registers.nacks, asked.length(4)),
+        registers.nacks.as_slice(),
         part::front(bytes, destination),
         part::front(rest, signature),
         part::after(rest, signature),

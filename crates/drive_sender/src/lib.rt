@@ -3,7 +3,6 @@
 #![tactic(auto)]
 
 use drive_state::{Registers, given};
-use program_lines::part;
 use program_script::answer::code;
 use terms::SeqNo;
 
@@ -30,7 +29,7 @@ fn valid(registers: &mut Registers) {
 fn acks(registers: &mut Registers) {
     let asked = &registers.asked;
     let through = SeqNo(asked.word32(0));
-    let nacks = part::front(&registers.nacks, asked.length(1));
+    let nacks = registers.nacks.as_slice();
     let acked = sender_acks::acks(registers.sender, through, nacks, asked.value(2));
     registers.sender = acked.state;
     registers.answer.tell_number(acked.answer.map(u64::from));

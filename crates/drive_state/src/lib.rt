@@ -18,7 +18,7 @@ use terms::SeqNo;
 pub struct Registers {
     // what a call asks: its numbers, its NACKs, its bytes, which are at most three times 70,000, one behind the other, and an output
     pub asked: Asked,
-    pub nacks: [u32; 300],
+    pub nacks: Buffer<u32, 300>,
     pub given: Buffer<u8, 210000>,
     pub out: Buffer<u8, 70000>,
     pub answer: Answer,
@@ -56,7 +56,7 @@ impl Registers {
     {
         Registers {
             asked: Asked([0; 16]),
-            nacks: [0; 300],
+            nacks: Buffer::new(0),
             given: Buffer::new(0),
             out: Buffer::new(0),
             answer: Answer {
