@@ -11,8 +11,8 @@ use drive_state::Registers;
 use program_lines::say;
 use std::io::Read;
 
-// Makes the call of a letter: on packets, timing, a receiver, a sender's packets, a serial line, or a sender's state. The letters are the script's, from outside: each
-// topic's crate takes its own, and only this says of which topic a letter is.
+// Makes the call of a letter: on packets, timing, a receiver, a sender's packets, a serial line, or a sender's state.
+// The letters are the script's, from outside: each topic's crate takes its own, and only this says of which topic a letter is.
 fn call(registers: &mut Registers, letter: u8) {
     match letter {
         b'r' | b'd' | b'w' => drive_packets::call(registers, letter),

@@ -50,7 +50,7 @@ fn sender() -> Sender {
 }
 
 impl Registers {
-    // As they are at first: all 0, and no byte stored. The receiver is that of a refused start, and every call refuses it; the reader is one over a buffer of no byte.
+    // As they are at first: all 0, and no byte stored. The receiver is that of a refused start, so every call refuses it; the reader's buffer has no byte.
     pub fn new() -> Registers
         ensures { Blank result }
     {

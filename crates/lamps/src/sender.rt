@@ -21,5 +21,6 @@ pub fn send<'a>(number: u32, payload: &[u8], out: &'a mut [u8; 256]) -> &'a [u8]
         max_size: 0,
     };
     let written = packet_write::write(fields, &[], b"", b"", payload, out);
+    // no packet of this program is refused: 128 bytes of payload fit
     part::front(out, written.map_or(0, |packet| packet.length))
 }

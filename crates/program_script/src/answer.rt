@@ -6,7 +6,7 @@ use super::buffer::Buffer;
 use super::sum;
 use terms::Refusal;
 
-// A refusal's number, and 0 where there is none. A code of 0 beside values, and a flag with numbers beside, are docs/DRIVE.md's format of a script and its answers.
+// A refusal's number, and 0 where there is none. (A code of 0 beside values, and a flag with numbers beside, are docs/DRIVE.md's format.)
 pub fn code<T>(said: &Result<T, Refusal>) -> u64
     ensures { result ≡ code_of said.now }
 {

@@ -46,7 +46,8 @@ fn offer(
     again.state
 }
 
-// The next portion from the line, of up to 13 bytes, each length in its turn and in no order; of no byte at the line's end, or where it cannot be read.
+// The next portion from the line, of up to 13 bytes, each length in its turn and in no order; of no byte at the line's end, or where it
+// cannot be read, which ends the line as well.
 fn next<'a>(line: &mut impl Read, portion: &'a mut [u8; 16], turn: u64) -> &'a [u8] {
     let n = (turn % 13 * 7 % 13 + 1) as usize;
     let got = line.read(&mut portion[..n]).unwrap_or(0);
