@@ -47,7 +47,7 @@ impl Number for u16 {
     }
 
     fn put(self, rest: &mut [u8]) {
-        put_bytes(rest, &self.to_be_bytes());
+        put_bytes(rest, &u16::to_be_bytes(self));
     }
 }
 
@@ -61,16 +61,18 @@ impl Number for u32 {
     }
 
     fn put(self, rest: &mut [u8]) {
-        put_bytes(rest, &self.to_be_bytes());
+        put_bytes(rest, &u32::to_be_bytes(self));
     }
 }
 
-// Copies all of src.
+// Copies all of src. By a loop, and not by `copy_from_slice`, which calls memmove: the library for hosts in C needs memcpy and memset alone.
 pub fn put_bytes(rest: &mut [u8], src: &[u8])
     requires { length src.now ≤ length rest.old }
     ensures { rest.new ≡ src.now at_front_of rest.old }
 {
-    rest[..src.len()].copy_from_slice(src);
+    for (i, &x) in src.iter().enumerate() {
+        rest[i] = x;
+    }
 }
 
 // Writes numbers of four bytes, one behind the other.
