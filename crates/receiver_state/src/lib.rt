@@ -112,7 +112,7 @@ fn numbers_hold(h: Head) -> bool
 pub fn rules_hold(r: &Receiver) -> bool
     ensures { result ≡ rules_of r.now }
 {
-    numbers_hold(r.head) && (highest_held(r) & slots_hold(r))
+    numbers_hold(r.head) && highest_held(r) && slots_hold(r)
 }
 
 // Whether the slot size is 1 to 1,812: the part of refusal 10 that needs no store.
