@@ -77,7 +77,7 @@ fn write(registers: &mut Registers) {
         fields(asked),
         registers.nacks.as_slice(),
         part::front(bytes, destination),
-        part::front(rest, signature),
+        part::between(bytes, destination, signature),
         part::after(rest, signature),
         registers.out.as_mut_slice(),
     );

@@ -13,3 +13,9 @@ pub fn after(s: &[u8], at: usize) -> &[u8]
 {
     s.get(at..).unwrap_or(&[])
 }
+
+pub fn between(s: &[u8], at: usize, len: usize) -> &[u8]
+    ensures { result.now ≡ front_of len (rest_of at s.now) }
+{
+    front(after(s, at), len)
+}
