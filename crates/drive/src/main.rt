@@ -6,9 +6,11 @@ mod timing;
 
 use drive_format::input::Script;
 use drive_format::take;
-use drive_format::tell::Line;
+use drive_format::tell::{Line, Page};
 use drive_state::Registers;
 use program_lines::say;
+use program_script::buffer::Buffer;
+use std::fmt::Formatter;
 use std::io::Read;
 
 // Makes the call of a letter: on packets, timing, a receiver, a sender's packets, a serial line, or a sender's state.
@@ -29,6 +31,7 @@ fn step<R: Read>(
     rt: &(impl Print + Eprint),
     script: &mut Script<R>,
     registers: &mut Registers,
+    page: &mut Page,
     letter: u8,
 ) -> bool {
     let Ok(row) = take::call(script, registers, letter) else {
@@ -37,8 +40,11 @@ fn step<R: Read>(
         return false;
     };
     call(registers, letter);
-    let line = Line { row, registers };
-    if rt.print(line).is_err() {
+    page.0.clear();
+    let is_told = Formatter::new(&mut *page)
+        .write(Line { row, registers })
+        .is_ok();
+    if !(is_told & rt.write_all(page.0.as_slice()).is_ok()) {
         say::fault(rt, "not written\n");
         return false;
     }
@@ -49,11 +55,12 @@ fn step<R: Read>(
 fn main(rt: HostRuntime) {
     let mut script = Script(rt.reader());
     let mut registers = Registers::new();
+    let mut page = Page(Buffer::new(0));
     for _ in 0..u64::MAX {
         let Some(letter) = script.letter() else {
             return;
         };
-        if !step(&rt, &mut script, &mut registers, letter) {
+        if !step(&rt, &mut script, &mut registers, &mut page, letter) {
             return;
         }
     }

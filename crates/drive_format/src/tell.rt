@@ -3,6 +3,7 @@ ghost use Rattle.std.specs.Prelude.{◌<◌};
 
 use super::table::Row;
 use drive_state::Registers;
+use program_script::buffer::Buffer;
 use receiver_state::Head;
 use sender_state::Sender;
 use serial_state::LineReader;
@@ -14,6 +15,21 @@ use std::fmt::{Display, Formatter};
 pub struct Line<'a> {
     pub row: Row,
     pub registers: &'a Registers,
+}
+
+// What a line is put together in, so that it goes out in one write. The longest, of a sender with all its places, has less than 14,000 bytes.
+#[derive(Drop)]
+pub struct Page(pub Buffer<u8, 16384>);
+
+impl fmt::Write for Page {
+    fn write_str(&mut self, s: &str) -> fmt::Result {
+        let bytes = s.as_bytes();
+        if bytes.len() > self.0.room() {
+            return Err(fmt::Error);
+        }
+        self.0.more(bytes.len()).copy_from_slice(bytes);
+        Ok(())
+    }
 }
 
 // Each number behind a space.

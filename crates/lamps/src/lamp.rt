@@ -6,7 +6,7 @@ use program_lines::{part, say};
 use receiver_state::Receiver;
 use terms::SeqNo;
 
-#[derive(Drop)]
+#[derive(Clone, Copy)]
 pub struct Lamp {
     receiver: Receiver,
     // 512 slots of 128 bytes

@@ -9,13 +9,14 @@ mod tell;
 use image::Image;
 use lamp::Lamp;
 use program_lines::say;
+use program_lines::say::Named;
 
 // Packets of the image arrive.
 fn arrive(rt: &(impl Print + Eprint), lamp: &mut Lamp, original: &Image, numbers: &[u32]) {
     for &number in numbers {
         let mut bytes = [0u8; 256];
         let packet = sender::send(number, image::piece(original, number), &mut bytes);
-        lamp.receive(rt, packet, "arrives");
+        lamp.receive(rt, packet, " arrives");
     }
 }
 
@@ -23,18 +24,15 @@ fn arrive(rt: &(impl Print + Eprint), lamp: &mut Lamp, original: &Image, numbers
 fn again(rt: &(impl Print + Eprint), lamp: &mut Lamp, number: u8) {
     let mut bytes = [0u8; 256];
     let packet = sender::send(u32::from(number), &[number; 128], &mut bytes);
-    lamp.receive(rt, packet, "again, with other bytes");
+    lamp.receive(rt, packet, " again, with other bytes");
 }
 
 fn compare(rt: &(impl Print + Eprint), original: &Image, shown: &[u8]) {
-    say::text(
-        rt,
-        format_args!("The lamp's image: {} bytes, ", shown.len()),
-    );
+    say::text(rt, Named("The lamp's image:", shown.len() as u64));
     if shown == original.as_slice() {
-        say::text(rt, "the same as the original, byte for byte.\n");
+        say::text(rt, " bytes, the same as the original, byte for byte.\n");
     } else {
-        say::text(rt, "and another than the original.\n");
+        say::text(rt, " bytes, and another than the original.\n");
         say::fault(rt, "another image\n");
     }
 }

@@ -1,6 +1,7 @@
 // What happens, in words.
 use packet_read::Packet;
 use program_lines::say;
+use program_lines::say::Named;
 use receiver_why::Reason;
 use std::fmt;
 use terms::{Refusal, SeqNo};
@@ -16,9 +17,10 @@ fn why(refusal: Refusal) -> &'static str {
 }
 
 pub fn refused(rt: &(impl Print + Eprint), refusal: Refusal) {
+    let number = u64::from(refusal.number());
     say::text(
         rt,
-        format_args!(": refused {}, {}\n", refusal.number(), why(refusal)),
+        format_args!("{}, {}\n", Named(": refused", number), why(refusal)),
     );
 }
 
@@ -41,16 +43,18 @@ pub fn packet(rt: &(impl Print + Eprint), p: Packet, how: &str) {
         number: p.seq_nro,
         size: p.payload.len,
     };
-    say::text(rt, format_args!("packet {payload} {how}"));
+    say::text(rt, format_args!("packet {payload}{how}"));
 }
 
 pub fn held(rt: &(impl Print + Eprint), next: SeqNo) {
-    say::text(rt, format_args!(": held, waiting for {}\n", next.0));
+    let next = u64::from(next.0);
+    say::text(rt, format_args!("{}\n", Named(": held, waiting for", next)));
 }
 
 // Where a number stands, as support reads it.
 pub fn reason(rt: &(impl Print + Eprint), number: u32, answer: Result<Reason, Refusal>) {
-    say::text(rt, format_args!("  why is {number} not delivered? "));
+    let asked = Named("  why is", u64::from(number));
+    say::text(rt, format_args!("{asked} not delivered? "));
     match answer {
         Ok(Reason::LastNumber) => say::text(rt, "It is the last number, which no packet can use"),
         Ok(Reason::AtOrBelowStart) => say::text(rt, "It is at or below the start"),
@@ -58,15 +62,15 @@ pub fn reason(rt: &(impl Print + Eprint), number: u32, answer: Result<Reason, Re
         Ok(Reason::Ready) => say::text(rt, "It is ready: it has only to be taken"),
         Ok(Reason::BehindGap(smallest)) => say::text(
             rt,
-            format_args!(
-                "It is held behind a gap: the smallest missing number is {}",
-                smallest.0
+            Named(
+                "It is held behind a gap: the smallest missing number is",
+                u64::from(smallest.0),
             ),
         ),
         Ok(Reason::Missing) => say::text(rt, "It is missing, and a later one came"),
         Ok(Reason::NotYetSeen) => say::text(rt, "It is not yet seen"),
         Ok(Reason::BeyondSpan) => say::text(rt, "It is beyond the span"),
-        Err(why) => say::text(rt, format_args!("Refused {}", why.number())),
+        Err(why) => say::text(rt, Named("Refused", u64::from(why.number()))),
     }
     say::text(rt, ".\n");
 }
@@ -79,10 +83,8 @@ pub fn acknowledgement(rt: &(impl Print + Eprint), bytes: &[u8]) {
     if p.nacks.len == 0 {
         return;
     }
-    say::text(
-        rt,
-        format_args!("  acknowledged: ack-through {}, NACKs", p.ack_through.0),
-    );
+    let through = Named("  acknowledged: ack-through", u64::from(p.ack_through.0));
+    say::text(rt, format_args!("{through}, NACKs"));
     let (nacks, _) = packet_parts::nacks(bytes).as_chunks();
     for nack in nacks {
         say::text(rt, format_args!(" {}", u32::from_be_bytes(*nack)));

@@ -1,35 +1,38 @@
 // What is heard, in words.
 use packet_read::Packet;
 use program_lines::say;
+use program_lines::say::Named;
 use serial_state::LineReader;
 use terms::Refusal;
 
 pub fn refused(rt: &(impl Print + Eprint), why: Refusal) {
-    say::text(rt, format_args!("refused {}\n", why.number()));
+    let number = u64::from(why.number());
+    say::text(rt, format_args!("{}\n", Named("refused", number)));
 }
 
 fn fields(rt: &(impl Print + Eprint), p: Packet) {
     say::text(
         rt,
         format_args!(
-            "send {}, receive {}, number {}, ack-through {}, NACKs {}, resend delay {}, flags {}, delay {}, maximum size {}, payload {}\n",
-            p.send_stream_id.0,
-            p.recv_stream_id.0,
-            p.seq_nro.0,
-            p.ack_through.0,
-            p.nacks.len / 4,
-            p.resend_delay,
-            p.flags,
-            p.delay,
-            p.max_size,
-            p.payload.len
+            "{}{}{}{}{}{}{}{}{}{}\n",
+            Named("send", u64::from(p.send_stream_id.0)),
+            Named(", receive", u64::from(p.recv_stream_id.0)),
+            Named(", number", u64::from(p.seq_nro.0)),
+            Named(", ack-through", u64::from(p.ack_through.0)),
+            Named(", NACKs", (p.nacks.len / 4) as u64),
+            Named(", resend delay", u64::from(p.resend_delay)),
+            Named(", flags", u64::from(p.flags)),
+            Named(", delay", u64::from(p.delay)),
+            Named(", maximum size", u64::from(p.max_size)),
+            Named(", payload", p.payload.len as u64)
         ),
     );
 }
 
 // A packet's length and its fields, or why it cannot be read.
 pub fn packet(rt: &(impl Print + Eprint), bytes: &[u8]) {
-    say::text(rt, format_args!("packet of {}: ", bytes.len()));
+    let length = bytes.len() as u64;
+    say::text(rt, format_args!("{}: ", Named("packet of", length)));
     match packet_read::read(bytes) {
         Ok(p) => fields(rt, p),
         Err(why) => refused(rt, why),
@@ -44,8 +47,9 @@ pub fn end(rt: &(impl Print + Eprint), r: LineReader) {
         2 => say::text(
             rt,
             format_args!(
-                "the line ends inside a packet of {}, of which there are {}\n",
-                r.size, r.there
+                "{}{}\n",
+                Named("the line ends inside a packet of", r.size as u64),
+                Named(", of which there are", r.there as u64)
             ),
         ),
         _ => say::text(rt, "the line is not read on\n"),
