@@ -3,11 +3,12 @@ ghost use Rattle.std.specs.Prelude.{◌≡◌, IfOk};
 
 use super::input::{BadScript, Script};
 use super::table::Row;
-use drive_state::Registers;
+use drive_state::{Registers, given};
 use program_script::buffer::Buffer;
 use receiver_state::Receiver;
-use sender_state::Sender;
+use sender_state::{Place, Sender};
 use std::io::Read;
+use terms::SeqNo;
 
 // A length and that many bytes, behind those that the call asked before; how many.
 fn bytes<R: Read>(
@@ -34,13 +35,13 @@ fn buffer<R: Read, const N: usize>(
 }
 
 // A count and that many NACKs.
-fn nacks<R: Read>(
-    script: &mut Script<R>,
-    nacks: &mut Buffer<u32, 300>,
-) -> Result<usize, BadScript> {
+fn nacks<R: Read>(script: &mut Script<R>, nacks: &mut Buffer<u32, 300>) -> Result<usize, BadScript>
+    ensures { IfOk result (λ n. nacks.new.length ≡ n) }
+{
     let n = script.limited(2, 300)?;
-    for nack in nacks.only(n) {
-        *nack = u32::from_be_bytes(script.array()?);
+    nacks.clear();
+    for _ in 0..n {
+        nacks.push(u32::from_be_bytes(script.array()?));
     }
     Ok(n)
 }
@@ -51,7 +52,7 @@ fn marks<R: Read>(script: &mut Script<R>, receiver: &mut Receiver) -> Result<usi
     receiver.marks = [0; 512];
     for _ in 0..n {
         let i = script.limited(2, 511)?;
-        receiver.marks[i] = u16::from_be_bytes(script.array()?);
+        given::put_mark(receiver, i, u16::from_be_bytes(script.array()?));
     }
     Ok(n)
 }
@@ -59,11 +60,14 @@ fn marks<R: Read>(script: &mut Script<R>, receiver: &mut Receiver) -> Result<usi
 // A place and what it holds.
 fn place<R: Read>(script: &mut Script<R>, sender: &mut Sender) -> Result<(), BadScript> {
     let i = script.limited(1, 191)?;
-    sender.numbers[i] = u32::from_be_bytes(script.array()?);
-    sender.lengths[i] = u32::from_be_bytes(script.array()?);
-    sender.sent[i] = u64::from_be_bytes(script.array()?);
-    sender.marks[i] = u32::from_be_bytes(script.array()?);
-    sender.resent[i] = u32::from_be_bytes(script.array()?);
+    let place = Place {
+        number: SeqNo(u32::from_be_bytes(script.array()?)),
+        size: u32::from_be_bytes(script.array()?),
+        sent: u64::from_be_bytes(script.array()?),
+        mark: u32::from_be_bytes(script.array()?),
+        resent: u32::from_be_bytes(script.array()?),
+    };
+    given::put_place(sender, i, place);
     Ok(())
 }
 

@@ -1,10 +1,10 @@
-// What a call gives of a receiver's or a sender's state in its numbers.
+// What a call gives of a receiver's or a sender's state: its numbers, and mark by mark or place by place what the table holds.
 ghost use Rattle.std.specs.Prelude.{◌≡◌, ◌<◌};
-ghost use Rattle.drive_state.specs.Registers.{timing_in, timer_in, SenderIn, HeadIn};
+ghost use Rattle.drive_state.specs.Registers.{timing_in, timer_in, with_place, with_mark, SenderIn, HeadIn};
 
 use program_script::asked::Asked;
-use receiver_state::Head;
-use sender_state::Sender;
+use receiver_state::{Head, Receiver};
+use sender_state::{Place, Sender};
 use terms::SeqNo;
 use timer::Sampled;
 
@@ -56,4 +56,24 @@ pub fn head(asked: &Asked) -> Head
         next: SeqNo(asked.word32(2)),
         highest: SeqNo(asked.word32(3)),
     }
+}
+
+// What a place holds.
+pub fn put_place(s: &mut Sender, at: usize, place: Place)
+    requires { at < 192 }
+    ensures { s.new ≡ with_place s.old at place }
+{
+    s.numbers[at] = place.number.0;
+    s.lengths[at] = place.size;
+    s.sent[at] = place.sent;
+    s.resent[at] = place.resent;
+    s.marks[at] = place.mark;
+}
+
+// A slot's mark.
+pub fn put_mark(r: &mut Receiver, at: usize, mark: u16)
+    requires { at < 512 }
+    ensures { r.new ≡ with_mark r.old at mark }
+{
+    r.marks[at] = mark;
 }

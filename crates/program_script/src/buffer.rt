@@ -1,5 +1,5 @@
 // A buffer in fixed memory.
-ghost use Rattle.std.specs.Prelude.{◌≡◌, ◌+◌, ◌≤◌, take, length};
+ghost use Rattle.std.specs.Prelude.{◌≡◌, ◌+◌, ◌≤◌, ◌<◌, [], ◌∷◌, ◌++◌, take, length};
 
 // As many elements as its length says, at the front of an array.
 #[derive(Drop)]
@@ -61,7 +61,21 @@ impl<T: Copy, const N: usize> Buffer<T, N> {
         self.more(n)
     }
 
-    pub fn clear(&mut self) {
+    // One element more, behind the others.
+    pub fn push(&mut self, x: T)
+        requires { self.old.length < N }
+        ensures length { self.new.length ≡ self.old.length + 1 }
+        ensures behind { take self.new.length self.new.all ≡ take self.old.length self.old.all ++ (x ∷ []) }
+    {
+        let at = self.length;
+        let all = self.all.as_mut_slice();
+        all[at] = x;
+        self.length = at + 1;
+    }
+
+    pub fn clear(&mut self)
+        ensures { self.new.length ≡ 0 }
+    {
         self.length = 0;
     }
 }
