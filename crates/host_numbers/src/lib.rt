@@ -3,7 +3,7 @@
 #![tactic(auto)]
 
 ghost use Rattle.std.specs.Prelude.{◌≡◌, [], length};
-ghost use Rattle.terms.specs.Answers.{saying, said, said_of};
+ghost use Rattle.terms.specs.Answers.{refusal, saying, said, said_of};
 ghost use Rattle.receiver_state.specs.Start.{start_of};
 ghost use Rattle.receiver_ack.specs.Acknowledge.{acknowledge_of};
 ghost use Rattle.receiver_why.specs.Reasons.{said_why};
@@ -97,6 +97,16 @@ impl From<Span> for Part {
     }
 }
 
+// A refused read, by its number.
+pub fn of_refusal(number: u32) -> Fields
+    ensures { result ≡ hosted_read (refusal number) }
+{
+    Fields {
+        refusal: number,
+        ..Fields::default()
+    }
+}
+
 impl From<Result<Packet, Refusal>> for Fields {
     ghost from_gives = { λ answer fields. fields ≡ hosted_read (saying answer) };
 
@@ -118,13 +128,7 @@ impl From<Result<Packet, Refusal>> for Fields {
                 signature: p.signature.into(),
                 payload: p.payload.into(),
             },
-            Err(why) => {
-                let refusal = why.number();
-                Fields {
-                    refusal,
-                    ..Fields::default()
-                }
-            }
+            Err(why) => of_refusal(why.number()),
         }
     }
 }
