@@ -59,10 +59,10 @@ pub fn fields(r: &Receiver, missing: &mut [u32; 512]) -> AckFields
     ensures missing_after { missing.new ≡ missing_of r.now at_front_of missing.old }
 {
     let count = list_missing(r, missing);
-    let ack_through = if count <= MAX_NACKS {
-        r.head.highest
+    let (nacks, ack_through) = if count <= MAX_NACKS {
+        (count, r.head.highest)
     } else {
-        SeqNo(missing[MAX_NACKS] - 1)
+        (MAX_NACKS, SeqNo(missing[MAX_NACKS] - 1))
     };
     let (flags, delay) = if count >= MAX_NACKS {
         (flags::DELAY, CHOKING_REQUEST)
@@ -70,7 +70,7 @@ pub fn fields(r: &Receiver, missing: &mut [u32; 512]) -> AckFields
         (0, 0)
     };
     AckFields {
-        nacks: count.min(MAX_NACKS),
+        nacks,
         ack_through,
         flags,
         delay,

@@ -44,8 +44,8 @@ fn fill(r: LineReader, portion: &[u8], at: usize, buffer: &mut [u8]) -> Fed
     let lacks = r.size - r.there;
     let count = lacks.min(portion.len() - at);
     let end = at + count;
-    wire::put_bytes(&mut buffer[r.there..], &portion[at..end]);
     if count < lacks {
+        wire::put_bytes(&mut buffer[r.there..], &portion[at..]);
         let state = LineReader {
             there: r.there + count,
             ..r
@@ -56,6 +56,7 @@ fn fill(r: LineReader, portion: &[u8], at: usize, buffer: &mut [u8]) -> Fed
             state,
         };
     }
+    wire::put_bytes(&mut buffer[r.there..], &portion[at..end]);
     Fed {
         answer: Ok(Some(r.size)),
         used: end, // the byte that completes it too

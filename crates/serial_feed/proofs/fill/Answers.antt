@@ -30,5 +30,5 @@ returns c =
     let n = c.min-count.result in
     let known : coming_of r buffer ≡ within r.size (take r.there buffer) = grind (arith, common_steps) in
     let full = within_full r.room r.size (take r.there buffer) bytes n (grind (arith, common_steps)) (grind (arith, common_steps)) (grind (arith, common_steps)) in
-    let after = put_behind buffer (take n bytes) c.put_bytes.new.rest r.there (grind (arith, common_steps)) (grind (arith, common_steps)) in
+    let after = put_behind buffer (take n bytes) c.put_bytes-2.new.rest r.there (grind (arith, common_steps)) (grind (arith, common_steps)) in
     rw (known, full, after) (grind (arith, common_steps))
